@@ -1,0 +1,61 @@
+-- Document 01, "Cuts, communities, groups", second paragraph.
+-- Assumes nothing.
+use Prim.Native.Nat.{ℕ, zero, suc, _≤_}
+use mathlib.Core.Path.{_≡_}
+use mathlib.Core.Bool.{Bool, true, false, not, _&&_, _||_, cond}
+use mathlib.Core.List.{List, [], _∷_, _++_, map}
+use lib.Dec.{ltb, eqb}
+use Rattle.rules.specs.Plant.{Plant}
+use Rattle.rules.specs.Cut.{Devices, Inside, size, cost}
+
+-- S and the device k
+unfoldable pub with : ℕ → Devices → Devices
+with k S i = eqb i k || S i
+
+-- all sets of devices below n
+unfoldable pub sets : ℕ → List Devices
+sets zero = (λ i. false) ∷ []
+sets (suc k) = sets k ++ map (with k) (sets k)
+
+-- all devices
+unfoldable pub everyone : Plant → Devices
+everyone g i = ltb i (g .devices)
+
+-- "the set of least cost ..; among those of equal cost, the one with fewest devices": whether S comes before T by that
+unfoldable pub better : Plant → ℕ → ℕ → Devices → Devices → Bool
+better g p q S T = ltb (cost g p q S) (cost g p q T) || (eqb (cost g p q S) (cost g p q T) && ltb (size g S) (size g T))
+
+-- the best of T and of those sets of the list that pass the test ok
+unfoldable pub best : Plant → ℕ → ℕ → (Devices → Bool) → Devices → List Devices → Devices
+best g p q ok T [] = T
+best g p q ok T (S ∷ Ss) = best g p q ok (cond (ok S && better g p q S T) S T) Ss
+
+-- "The community of device d is the set of least cost among sets containing d; among those of equal cost, the one with fewest devices."
+unfoldable pub community : Plant → ℕ → ℕ → ℕ → Devices
+community g p q d = best g p q (λ S. S d) (everyone g) (sets (g .devices))
+
+-- whether each device below k that is in S is in F
+unfoldable pub within : ℕ → Devices → Devices → Bool
+within zero S F = true
+within (suc k) S F = (not (S k) || F k) && within k S F
+
+-- all devices of the fence F
+unfoldable pub fenced : Plant → Devices → Devices
+fenced g F i = everyone g i && F i
+
+-- the same among the sets that lie inside a fence F: the best set that holds d inside F
+unfoldable pub communityIn : Plant → ℕ → ℕ → Devices → ℕ → Devices
+communityIn g p q F d = best g p q (λ S. S d && within (g .devices) S F) (fenced g F) (sets (g .devices))
+
+-- the same as a property of a set C: it holds d and lies inside F, no such set costs less, and none that costs no more has fewer devices
+pub record IsCommunityIn (g : Plant) (p q : ℕ) (F : Devices) (d : ℕ) (C : Devices) : Type 0 where
+  pub holds : C d ≡ true
+  pub inside : Inside (g .devices) C F
+  pub least : (T : Devices) → T d ≡ true → Inside (g .devices) T F → cost g p q C ≤ cost g p q T
+  pub fewest : (T : Devices) → T d ≡ true → Inside (g .devices) T F → cost g p q T ≤ cost g p q C → size g C ≤ size g T
+
+-- and of the community itself: there is no fence
+pub record IsCommunity (g : Plant) (p q : ℕ) (d : ℕ) (C : Devices) : Type 0 where
+  pub holds : C d ≡ true
+  pub least : (T : Devices) → T d ≡ true → cost g p q C ≤ cost g p q T
+  pub fewest : (T : Devices) → T d ≡ true → cost g p q T ≤ cost g p q C → size g C ≤ size g T

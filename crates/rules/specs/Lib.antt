@@ -1,0 +1,15 @@
+-- Document 01's rules as definitions that antt computes. A reader has to believe these files, and no others.
+--     Plant       a line, a plant, a plant from its three lists
+--     Cut         a set of devices, its out, its size, its cost at a rate
+--     Community   the community of a device, also inside a fence
+--     Groups      the group of a device, its label, the labels at a rate
+--     Rates       accepted rates, order of fractions, lowest terms
+--     Refusals    each cause of a refusal, and the first in the fixed order
+--     Figures     K1 to K12 as a list
+pub mod Plant
+pub mod Cut
+pub mod Community
+pub mod Groups
+pub mod Rates
+pub mod Refusals
+pub mod Figures

@@ -1,0 +1,116 @@
+-- Document 01, "Refusal numbers": each cause, and the first in the fixed order.
+-- Assumes nothing.
+use Prim.Native.Nat.{ℕ, zero, suc}
+use mathlib.Core.Bool.{Bool, true, not, _&&_, _||_, cond}
+use mathlib.Core.List.{List, [], _∷_}
+use lib.Dec.{leb, ltb, eqb}
+use lib.ListN.{length, getD}
+use Rattle.rules.specs.Rates.{rateOk}
+
+-- "Each call .. answers a number and a place."
+pub record Refusal : Type 0 where
+  pub number : ℕ
+  pub place : ℕ
+
+-- "0 means done, with place 0."
+unfoldable pub done : Refusal
+done = record { number = 0; place = 0 }
+
+-- the number at the place, where the cause is there
+unfoldable pub cause : Bool → ℕ → ℕ → Refusal
+cause there number place = cond there (record { number = number; place = place }) done
+
+-- the first of the list that is a refusal
+unfoldable pub firstOf : List Refusal → Refusal
+firstOf [] = done
+firstOf (r ∷ rs) = cond (eqb (r .number) 0) (firstOf rs) r
+
+-- "1: n is 0", "2: n over 128"
+unfoldable pub devicesFault : ℕ → Refusal
+devicesFault n = firstOf (cause (eqb n 0) 1 0 ∷ cause (ltb 128 n) 2 0 ∷ [])
+
+-- "3: the three lists differ in length", "4: over 1,024 lines"
+unfoldable pub listsFault : ℕ → ℕ → ℕ → Refusal
+listsFault a b c = firstOf (cause (not (eqb a b && eqb b c)) 3 0 ∷ cause (ltb 1024 a) 4 0 ∷ [])
+
+-- "Lines rise strictly by first end, then second end": line k is above the one before, if there is one
+unfoldable pub rises : List ℕ → List ℕ → ℕ → Bool
+rises xs ys zero = true
+rises xs ys (suc k) =
+    ltb (getD xs k 0) (getD xs (suc k) 0) || (eqb (getD xs k 0) (getD xs (suc k) 0) && ltb (getD ys k 0) (getD ys (suc k) 0))
+
+-- "5: an end is not below n", "6: first end not below second", "7: line not above the one before", "8: signals outside 1 to 65,535"
+unfoldable pub lineFault : ℕ → List ℕ → List ℕ → List ℕ → ℕ → Refusal
+lineFault n xs ys zs k =
+    firstOf
+    (cause (leb n (getD xs k 0) || leb n (getD ys k 0)) 5 k
+    ∷ cause (leb (getD ys k 0) (getD xs k 0)) 6 k
+    ∷ cause (not (rises xs ys k)) 7 k
+    ∷ cause (eqb (getD zs k 0) 0 || ltb 65535 (getD zs k 0)) 8 k
+    ∷ [])
+
+-- "then lines from the lowest": the first fault of the lines from k on, of which there are m
+unfoldable pub linesFrom : ℕ → List ℕ → List ℕ → List ℕ → ℕ → ℕ → Refusal
+linesFrom n xs ys zs k zero = done
+linesFrom n xs ys zs k (suc m) = firstOf (lineFault n xs ys zs k ∷ linesFrom n xs ys zs (suc k) m ∷ [])
+
+unfoldable pub linesFault : ℕ → List ℕ → List ℕ → List ℕ → Refusal
+linesFault n xs ys zs = linesFrom n xs ys zs 0 (length xs)
+
+-- "9: p or q out of range"
+unfoldable pub rateFault : ℕ → ℕ → Refusal
+rateFault p q = cause (not (rateOk p q)) 9 0
+
+-- "10: a named device is not below n"
+unfoldable pub deviceFault : ℕ → ℕ → Refusal
+deviceFault n d = cause (leb n d) 10 0
+
+-- "12: a list to be filled or shown is too short"
+unfoldable pub roomFault : ℕ → ℕ → Refusal
+roomFault needed room = cause (ltb room needed) 12 0
+
+-- what a call has to say of each kind of cause: `done` of those that do not concern its inputs
+pub record Causes : Type 0 where
+  pub text : Refusal
+  pub devices : Refusal
+  pub lists : Refusal
+  pub lines : Refusal
+  pub rate : Refusal
+  pub device : Refusal
+  pub self : Refusal
+  pub level : Refusal
+  pub room : Refusal
+  pub never : Refusal
+
+-- "Order: 14, 15, 1, 2, 3, 4; then lines from the lowest, within a line 5, 6, 7, 8; then 9, 10, 11, 16, 12, 13."
+unfoldable pub inOrder : Causes → Refusal
+inOrder c =
+    firstOf
+    (c .text
+    ∷ c .devices
+    ∷ c .lists
+    ∷ c .lines
+    ∷ c .rate
+    ∷ c .device
+    ∷ c .self
+    ∷ c .level
+    ∷ c .room
+    ∷ c .never
+    ∷ [])
+
+-- what the check of a plant answers
+unfoldable pub plantFault : ℕ → List ℕ → List ℕ → List ℕ → Refusal
+plantFault n xs ys zs =
+    inOrder
+    (record {
+      text = done;
+      devices = devicesFault n;
+      lists = listsFault (length xs) (length ys) (length zs);
+      lines = linesFault n xs ys zs;
+      rate = done;
+      device = done;
+      self = done;
+      level = done;
+      room = done;
+      never = done;
+    })
