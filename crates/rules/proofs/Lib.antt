@@ -1,3 +1,17 @@
 -- The laws of the definitions in specs/.
---     Figures     K1 to K12
+--     Figures       K1 to K12
+--     RefusalLaws   the first fault: 0 exactly for an accepted plant
+--     Family        what the groups need of the communities
+--     GroupLaws     the group of a device
+--     LabelLaws     the lowest device of a set, the label of a device, a list by its entries
+--     DistinctLaws  the number of distinct labels: of devices that are their own label
+--     Divides       a lower rate never divides a group of a higher one
+--     Sweep         the groups by going through the devices once
 pub mod Figures
+pub mod RefusalLaws
+pub mod Family
+pub mod GroupLaws
+pub mod LabelLaws
+pub mod DistinctLaws
+pub mod Divides
+pub mod Sweep

@@ -1,16 +1,13 @@
 -- Document 01, "Refusal numbers": each cause, and the first in the fixed order.
 -- Assumes nothing.
-use Prim.Native.Nat.{ℕ, zero, suc}
+use Prim.Native.Nat.{ℕ, zero, suc, _≤_, _<_}
+use mathlib.Core.Path.{_≡_}
 use mathlib.Core.Bool.{Bool, true, not, _&&_, _||_, cond}
 use mathlib.Core.List.{List, [], _∷_}
 use lib.Dec.{leb, ltb, eqb}
 use lib.ListN.{length, getD}
+use Rattle.rules.specs.declared.Refusal.{Refusal}
 use Rattle.rules.specs.Rates.{rateOk}
-
--- "Each call .. answers a number and a place."
-pub record Refusal : Type 0 where
-  pub number : ℕ
-  pub place : ℕ
 
 -- "0 means done, with place 0."
 unfoldable pub done : Refusal
@@ -20,10 +17,14 @@ done = record { number = 0; place = 0 }
 unfoldable pub cause : Bool → ℕ → ℕ → Refusal
 cause there number place = cond there (record { number = number; place = place }) done
 
+-- r, where it is a refusal, and otherwise s
+unfoldable pub orElse : Refusal → Refusal → Refusal
+orElse r s = cond (eqb (r .number) 0) s r
+
 -- the first of the list that is a refusal
 unfoldable pub firstOf : List Refusal → Refusal
 firstOf [] = done
-firstOf (r ∷ rs) = cond (eqb (r .number) 0) (firstOf rs) r
+firstOf (r ∷ rs) = orElse r (firstOf rs)
 
 -- "1: n is 0", "2: n over 128"
 unfoldable pub devicesFault : ℕ → Refusal
@@ -52,7 +53,7 @@ lineFault n xs ys zs k =
 -- "then lines from the lowest": the first fault of the lines from k on, of which there are m
 unfoldable pub linesFrom : ℕ → List ℕ → List ℕ → List ℕ → ℕ → ℕ → Refusal
 linesFrom n xs ys zs k zero = done
-linesFrom n xs ys zs k (suc m) = firstOf (lineFault n xs ys zs k ∷ linesFrom n xs ys zs (suc k) m ∷ [])
+linesFrom n xs ys zs k (suc m) = orElse (lineFault n xs ys zs k) (linesFrom n xs ys zs (suc k) m)
 
 unfoldable pub linesFault : ℕ → List ℕ → List ℕ → List ℕ → Refusal
 linesFault n xs ys zs = linesFrom n xs ys zs 0 (length xs)
@@ -114,3 +115,17 @@ plantFault n xs ys zs =
       room = done;
       never = done;
     })
+
+-- what "The plant" accepts, quantity by quantity: devices, lists, and of each line its ends, its place after the one before, and its signals
+pub record Accepted (n : ℕ) (xs ys zs : List ℕ) : Type 0 where
+  pub some-device : 1 ≤ n
+  pub most-devices : n ≤ 128
+  pub one-length : length xs ≡ length ys
+  pub one-length′ : length ys ≡ length zs
+  pub most-lines : length xs ≤ 1024
+  pub first-device : (k : ℕ) → k < length xs → getD xs k 0 < n
+  pub second-device : (k : ℕ) → k < length xs → getD ys k 0 < n
+  pub first-below-second : (k : ℕ) → k < length xs → getD xs k 0 < getD ys k 0
+  pub rising : (k : ℕ) → k < length xs → rises xs ys k ≡ true
+  pub some-signal : (k : ℕ) → k < length xs → 1 ≤ getD zs k 0
+  pub most-signals : (k : ℕ) → k < length xs → getD zs k 0 ≤ 65535
