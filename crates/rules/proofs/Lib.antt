@@ -1,6 +1,11 @@
 -- The laws of the definitions in specs/.
 --     Figures       K1 to K12
 --     RefusalLaws   the first fault: 0 exactly for an accepted plant
+--     Sums          out, size and cost of two sets together
+--     Best          the community is the best set that holds its device
+--     Communities   the only one; nested or apart
+--     Bounds        the two bounds of a group
+--     Rates         communities at two rates
 --     Family        what the groups need of the communities
 --     GroupLaws     the group of a device
 --     LabelLaws     the lowest device of a set, the label of a device, a list by its entries
@@ -9,6 +14,11 @@
 --     Sweep         the groups by going through the devices once
 pub mod Figures
 pub mod RefusalLaws
+pub mod Sums
+pub mod Best
+pub mod Communities
+pub mod Bounds
+pub mod Rates
 pub mod Family
 pub mod GroupLaws
 pub mod LabelLaws
