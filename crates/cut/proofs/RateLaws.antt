@@ -1,0 +1,172 @@
+-- Rates: the range test, the common divisor that a reduction finds, that the result is in lowest terms, and that a fraction has only one form in lowest terms (so a reduction's contract determines its answer).
+-- Assumes nothing.
+use Prim.Native.Nat.{ℕ, zero, suc, _+_, _*_, _/_, _%_, _∣_, _≤_, _<_}
+use mathlib.Core.Path.{_≡_, refl, sym, ap, subst, _∙_}
+use mathlib.Core.Logic.{_↔_}
+use mathlib.Core.Bool.{Bool, true, false, _&&_, cond, true≢false}
+use native.Mathlib.Nat.{le-suc, mul-le-mul, not-suc-le-zero, zero-lt-suc, mul-assoc, mul-comm, mul-left-comm, mul-right-comm, add-mul, one-mul, mod-lt, div-add-mod, eq-of-mul-eq-mul-left, eq-of-mul-eq-mul-right, mul-div-cancel', one-dvd, dvd-zero, dvd-refl, dvd-mod-iff, dvd-mul-left, dvd-mul-right, dvd-antisymm, dvd-of-mul-dvd-mul-right, dvd-add-iff-right, mul-dvd-mul-right, eq-one-of-dvd-one}
+use native.Mathlib.Omega.{arith}
+use borrow.Author.Tests.{le-leb, lt-leb, leb-true}
+use lib.Dec.{leb}
+use Rattle.rules.specs.Rates.{rateOk, Same, Lowest}
+use Rattle.cut.specs.declared.rate.Reduced.{Reduced}
+use Rattle.cut.specs.RateCalls.{Reduction}
+use Rattle.cut.specs.RateLoop.{Divisor}
+
+-- the range test, bound by bound
+pub record InRange (p q : ℕ) : Type 0 where
+  pub p-least : 1 ≤ p
+  pub p-most : p ≤ 100000000
+  pub q-least : 1 ≤ q
+  pub q-most : q ≤ 1000
+
+pub in-range : {p q : ℕ} → InRange p q → rateOk p q ≡ true
+unfolding rateOk
+in-range r = simp (le-leb _ _ (r .p-least), le-leb _ _ (r .p-most), le-leb _ _ (r .q-least), le-leb _ _ (r .q-most))
+
+and-left : (a b : Bool) → (a && b) ≡ true → a ≡ true
+and-left true b e = refl
+and-left false b e = e
+
+and-right : (a b : Bool) → (a && b) ≡ true → b ≡ true
+and-right true b e = e
+and-right false b e = absurd (true≢false (sym e))
+
+pub range-in : (p q : ℕ) → rateOk p q ≡ true → InRange p q
+unfolding rateOk
+range-in p q e =
+    let ps = and-left (leb 1 p && leb p 100000000) (leb 1 q && leb q 1000) e in
+    let qs = and-right (leb 1 p && leb p 100000000) (leb 1 q && leb q 1000) e in
+    record {
+      p-least = leb-true _ _ (and-left (leb 1 p) (leb p 100000000) ps);
+      p-most = leb-true _ _ (and-right (leb 1 p) (leb p 100000000) ps);
+      q-least = leb-true _ _ (and-left (leb 1 q) (leb q 1000) qs);
+      q-most = leb-true _ _ (and-right (leb 1 q) (leb q 1000) qs);
+    }
+
+-- a and b have the common divisors of p and q
+pub record Alike (p q a b : ℕ) : Type 0 where
+  pub some : 1 ≤ a
+  pub down : (k : ℕ) → k ∣ p → k ∣ q → (k ∣ a) × (k ∣ b)
+  pub up : (k : ℕ) → k ∣ a → k ∣ b → (k ∣ p) × (k ∣ q)
+
+pub alike-start : {p : ℕ} (q : ℕ) → 1 ≤ p → Alike p q p q
+alike-start q h = record { some = h; down = λ k l r. (l, r); up = λ k l r. (l, r) }
+
+pub alike-step : {p q a b : ℕ} → Alike p q a b → 0 < b → Alike p q b (a % b)
+alike-step h l = record {
+  some = l;
+  down = λ k x y. let w = h .down k x y in (w .1, dvd-mod-iff k (w .1) .1 (w .0));
+  up = λ k x y. h .up k (dvd-mod-iff k x .0 y) x;
+}
+
+pub alike-done : {p q a b : ℕ} → Alike p q a b → b ≤ 0 → Divisor p q a
+alike-done {p} {q} {a} {b} h z =
+    let e : b ≡ 0 = omega arith in
+    let w = h .up a (dvd-refl a) (subst (λ (n : ℕ). a ∣ n) (sym e) (dvd-zero a)) in
+    record { some = h .some; left = w .0; right = w .1; most = λ k x y. h .down k x y .0 }
+
+-- p and q divided by their greatest common divisor: the same fraction, in lowest terms
+module _ {p q c : ℕ} (h : Divisor p q c) where
+  whole-p : c * (p / c) ≡ p
+  whole-p = mul-div-cancel' c (h .left)
+
+  whole-q : c * (q / c) ≡ q
+  whole-q = mul-div-cancel' c (h .right)
+
+  pub reduced-same : Same p q (p / c) (q / c)
+  reduced-same =
+      ap (λ (n : ℕ). n * (q / c)) (sym whole-p)
+      ∙ mul-assoc c (p / c) (q / c)
+      ∙ mul-left-comm c (p / c) (q / c)
+      ∙ ap (λ (n : ℕ). p / c * n) whole-q
+
+  times : (k n : ℕ) → c * (n / c) ≡ n → k ∣ n / c → k * c ∣ n
+  times k n e d = subst (λ (m : ℕ). k * c ∣ m) (mul-comm (n / c) c ∙ e) (mul-dvd-mul-right k d c)
+
+  pub reduced-lowest : Lowest (p / c) (q / c)
+  unfolding Lowest
+  reduced-lowest k x y =
+      eq-one-of-dvd-one
+      (dvd-of-mul-dvd-mul-right k (h .some) (subst (λ (n : ℕ). k * c ∣ n) (sym (one-mul c)) (h .most (k * c) (times k p whole-p x) (times k q whole-q y))))
+
+-- a number that has nothing in common with r and divides r times t divides t
+Divides : ℕ → Type 0
+Divides fuel = (r s t : ℕ) → r ≤ fuel → Lowest r s → s ∣ r * t → s ∣ t
+
+divides-zero : (s t : ℕ) → Lowest 0 s → s ∣ t
+unfolding Lowest
+divides-zero s t low = subst (λ (n : ℕ). n ∣ t) (sym (low s (dvd-zero s) (dvd-refl s))) (one-dvd t)
+
+divides-step : (fuel : ℕ) → Divides fuel → Divides (suc fuel)
+unfolding Divides Lowest
+divides-step fuel ih zero s t h low d = divides-zero s t low
+divides-step fuel ih (suc r) s t h low d =
+    let R = suc r in
+    let m = R * t / s in
+    let em : s * m ≡ R * t = mul-div-cancel' s d in
+    let rest : s % R < R = mod-lt s (zero-lt-suc r) in
+    let split : R * (s / R * m) + s % R * m ≡ R * t =
+    sym (ap (λ (n : ℕ). n + s % R * m) (mul-assoc R (s / R) m)) ∙ sym (add-mul (R * (s / R)) (s % R) m) ∙ ap (λ (n : ℕ). n * m) (div-add-mod s R) ∙ em in
+    let rm : R ∣ s % R * m = dvd-add-iff-right R (dvd-mul-right R (s / R * m)) .1 (subst (λ (n : ℕ). R ∣ n) (sym split) (dvd-mul-right R t)) in
+    let low′ : (k : ℕ) → k ∣ s % R → k ∣ R → k ≡ 1 = λ k x y. low k y (dvd-mod-iff k y .0 x) in
+    let dm : R ∣ m = ih (s % R) R m (omega arith) low′ rm in
+    let j = m / R in
+    let ej : R * j ≡ m = mul-div-cancel' R dm in
+    let et : s * j ≡ t =
+    eq-of-mul-eq-mul-left R (zero-lt-suc r) (s * j) t (mul-left-comm R s j ∙ ap (λ (n : ℕ). s * n) ej ∙ em) in
+    subst (λ (n : ℕ). s ∣ n) et (dvd-mul-right s j)
+
+coprime-divides : (fuel : ℕ) → Divides fuel
+unfolding Divides Lowest
+coprime-divides zero = none
+  where
+    none : (r s t : ℕ) → r ≤ 0 → Lowest r s → s ∣ r * t → s ∣ t
+    none zero s t h low d = divides-zero s t low
+    none (suc r) s t h low d = absurd (not-suc-le-zero h)
+coprime-divides (suc fuel) = divides-step fuel (coprime-divides fuel)
+
+-- a fraction has one form in lowest terms
+module _ (p q r s r′ s′ : ℕ) (some : 1 ≤ q) (e : Same p q r s) (e′ : Same p q r′ s′) (low : Lowest r s) (low′ : Lowest r′ s′) where
+  cross : r * s′ ≡ r′ * s
+  cross =
+      eq-of-mul-eq-mul-left q some (r * s′) (r′ * s)
+      (mul-left-comm q r s′ ∙ sym (mul-assoc r q s′) ∙ ap (λ (n : ℕ). n * s′) (sym e) ∙ mul-right-comm p s s′ ∙ ap (λ (n : ℕ). n * s) e′ ∙ mul-assoc r′ q s ∙ mul-left-comm r′ q s)
+
+  pub lowest-second : s ≡ s′
+  unfolding Divides
+  lowest-second =
+      dvd-antisymm
+      (coprime-divides (suc r) r s s′ (le-suc r) low (subst (λ (n : ℕ). s ∣ n) (sym cross) (dvd-mul-left s r′)))
+      (coprime-divides (suc r′) r′ s′ s (le-suc r′) low′ (subst (λ (n : ℕ). s′ ∣ n) cross (dvd-mul-left s′ r)))
+
+  pub lowest-first : r ≡ r′
+  lowest-first = eq-of-mul-eq-mul-right q some r r′ (sym e ∙ ap (λ (n : ℕ). p * n) lowest-second ∙ e′)
+
+pub off-range : {p q : ℕ} → (InRange p q → ⊥) → rateOk p q ≡ false
+off-range {p} {q} h = go (rateOk p q) refl
+  where
+    go : (b : Bool) → rateOk p q ≡ b → b ≡ false
+    go true e = absurd (h (range-in p q e))
+    go false e = refl
+
+-- a cross product of two accepted rates is small
+pub cross-most : (p q r s : ℕ) → rateOk p q ≡ true → rateOk r s ≡ true → p * s ≤ 100000000000
+cross-most p q r s e f = mul-le-mul (range-in p q e .p-most) (range-in r s f .q-most)
+
+-- the contract of a reduction determines its answer
+pub reduction-determined : (p q : ℕ) (r r′ : Reduced) → Reduction p q r → Reduction p q r′ → r ≡ r′
+reduction-determined p q r r′ h h′ = go (rateOk p q) refl
+  where
+    go : (b : Bool) → rateOk p q ≡ b → r ≡ r′
+    go false e = h .refused e ∙ sym (h′ .refused e)
+    go true e =
+        let some = range-in p q e .q-least in
+        let one = lowest-first p q (r .p) (r .q) (r′ .p) (r′ .q) some (h .same e) (h′ .same e) (h .lowest e) (h′ .lowest e) in
+        let two = lowest-second p q (r .p) (r .q) (r′ .p) (r′ .q) some (h .same e) (h′ .same e) (h .lowest e) (h′ .lowest e) in
+        λ i. record {
+          number = (h .number e ∙ sym (h′ .number e)) i;
+          place = (h .place e ∙ sym (h′ .place e)) i;
+          p = one i;
+          q = two i;
+        }

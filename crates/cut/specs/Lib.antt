@@ -1,0 +1,7 @@
+-- Definitions that the contracts of this crate cite.
+--     RateCalls  what comparison and reduction of rates answer
+--     RateLoop   what the loop of a reduction finds; no public contract cites it
+--     Search     what the functions of the search say to each other; no public contract cites it
+pub mod RateCalls
+pub mod RateLoop
+pub mod Search
