@@ -1,5 +1,21 @@
 -- Laws on plain values for the proofs of this crate's functions.
 --     RateLaws    rates: the range, the common divisor, lowest terms and that they are the only ones
 --     CheckLaws   the rules of a line and of the lines from k on, as the check of a plant goes through them
-pub mod CheckLaws
+--     IndexLaws   the index of each device's lines, line by line
+--     ReachLaws   the tree that a search has reached, device by device
+--     PathLaws    the way back from a place of the queue: how much can go, and what sending it changes
+--     FillLaws    a loop that fills the front of a lent list
+--     LeastLaws   the loops of the least set
+--     SumLoop     a loop that adds up
+--     CallLaws    the public calls: first fault, answer and lent lists, refused and accepted
+--     RoomLaws    what each set costs is what has been sent and what can still leave it: at the start, after a path, at the end
 pub mod RateLaws
+pub mod CheckLaws
+pub mod IndexLaws
+pub mod ReachLaws
+pub mod PathLaws
+pub mod FillLaws
+pub mod RoomLaws
+pub mod LeastLaws
+pub mod SumLoop
+pub mod CallLaws

@@ -10,6 +10,7 @@ use lib.Dec.{eqb}
 use lib.ListN.{length, getD, set}
 use Rattle.rules.specs.Plant.{plantOf}
 use Rattle.rules.specs.Cut.{Devices, Inside, cost}
+use Rattle.cut.specs.Calls.{fenceOf}
 
 -- f 0 + f 1 + .. + f (k − 1)
 unfoldable pub sum : ℕ → (ℕ → ℕ) → ℕ
@@ -30,10 +31,6 @@ linesLeave xs ys fs rs S = sum (length xs) (λ l. passing (S (getD xs l 0)) (S (
 -- what can leave S to the added vertex
 unfoldable pub drainsLeave : ℕ → List ℕ → Devices → ℕ
 drainsLeave n ws S = sum n (λ v. cond (S v) (getD ws v 0) 0)
-
--- the fence of device d: the devices with its number in the list
-unfoldable pub fenceOf : List ℕ → ℕ → Devices
-fenceOf fence d v = eqb (getD fence v 0) (getD fence d 0)
 
 -- what can still go over line l out of device u, where u is one of its ends, and its other end
 unfoldable pub roomFrom : List ℕ → List ℕ → List ℕ → ℕ → ℕ → ℕ
@@ -104,6 +101,16 @@ pub record Scan (xs ys fs rs ws : List ℕ) (d : ℕ) (nodes vias froms marks : 
 -- a search that found a device with drain left, the last in its queue
 pub record Found (xs ys fs rs ws : List ℕ) (d : ℕ) (nodes vias froms marks : List ℕ) (count : ℕ) : Type 0 where
   pub tree : Tree xs ys fs rs d nodes vias froms marks count
+  pub wet : (j : ℕ) → count ≡ j + 1 → 1 ≤ getD ws (getD nodes j 0) 0
+
+-- what a found device leaves to do: the way to it, the last in the queue, has room, and it has drain left
+pub record Led (xs ys fs rs ws : List ℕ) (d : ℕ) (nodes vias froms : List ℕ) (count : ℕ) : Type 0 where
+  pub way : Way xs ys nodes vias froms count
+  pub roomy : Roomy xs fs rs nodes vias froms count
+  pub some : 1 ≤ count
+  pub most : count ≤ 128
+  pub root : getD nodes 0 0 ≡ d
+  pub device : (j : ℕ) → j < count → getD nodes j 0 < 128
   pub wet : (j : ℕ) → count ≡ j + 1 → 1 ≤ getD ws (getD nodes j 0) 0
 
 -- on the way back from place j to place 0 at least δ can go over each line

@@ -244,3 +244,42 @@ ends-below n (x ∷ xs) (y ∷ ys) (z ∷ zs) f s =
 pub accepted-sound : (n : ℕ) (xs ys zs : List ℕ) → Accepted n xs ys zs → Sound (plantOf n xs ys zs)
 unfolding plantOf
 accepted-sound n xs ys zs a = ends-below n xs ys zs (a .first-device) (a .second-device)
+
+pub orElse-assoc : (r s t : Refusal) → orElse (orElse r s) t ≡ orElse r (orElse s t)
+unfolding orElse
+orElse-assoc r s t = go (eqb (r .number) 0) refl
+  where
+    go : (b : Bool) → eqb (r .number) 0 ≡ b → cond (eqb ((cond b s r) .number) 0) t (cond b s r) ≡ cond b (cond (eqb (s .number) 0) t s) r
+    go true e = refl
+    go false e = rw e
+
+-- a call on a plant: the plant first, then what the call adds
+pub call-is : (n : ℕ) (xs ys zs : List ℕ) (rate device self level room never : Refusal)
+    → inOrder (record {
+      text = done;
+      devices = devicesFault n;
+      lists = listsFault (length xs) (length ys) (length zs);
+      lines = linesFault n xs ys zs;
+      rate = rate;
+      device = device;
+      self = self;
+      level = level;
+      room = room;
+      never = never;
+    })
+    ≡ orElse (plantFault n xs ys zs) (firstOf (rate ∷ device ∷ self ∷ level ∷ room ∷ never ∷ []))
+unfolding inOrder firstOf
+call-is n xs ys zs rate device self level room never =
+    let rest = orElse rate (orElse device (orElse self (orElse level (orElse room (orElse never done))))) in
+    let lists = listsFault (length xs) (length ys) (length zs) in
+    orElse-next _ refl
+    ∙ ap (orElse (devicesFault n)) (sym (orElse-assoc lists (linesFault n xs ys zs) rest))
+    ∙ sym (orElse-assoc (devicesFault n) (orElse lists (linesFault n xs ys zs)) rest)
+    ∙ ap (λ (r : Refusal). orElse r rest) (sym (plant-is n xs ys zs))
+
+-- a call that is refused for its plant, and one that is not
+pub call-plant : (n : ℕ) (xs ys zs : List ℕ) (rest : Refusal) → (plantFault n xs ys zs .number ≡ 0 → ⊥) → orElse (plantFault n xs ys zs) rest ≡ plantFault n xs ys zs
+call-plant n xs ys zs rest h = orElse-first _ _ h
+
+pub call-rest : (n : ℕ) (xs ys zs : List ℕ) (rest : Refusal) → plantFault n xs ys zs .number ≡ 0 → orElse (plantFault n xs ys zs) rest ≡ rest
+call-rest n xs ys zs rest h = orElse-next rest (plant-clean n xs ys zs .whole h)

@@ -13,20 +13,10 @@ use Rattle.rules.specs.Plant.{Plant}
 use Rattle.rules.specs.Cut.{Devices, Inside, Agree, size}
 use Rattle.rules.specs.Community.{community}
 use Rattle.rules.specs.Groups.{groupOf, lowest, label}
+use Rattle.rules.specs.Sweep.{paint, sweep}
 use Rattle.rules.proofs.Family.{Family, same-bool, below-suc, agree-both, agree-inside, agree-sym, agree-trans}
 use Rattle.rules.proofs.GroupLaws.{group-only, group-same}
 use Rattle.rules.proofs.LabelLaws.{label-from}
-
--- e as the owner of all of S
-unfoldable pub paint : Devices → ℕ → (ℕ → ℕ) → ℕ → ℕ
-paint S e owner v = cond (S v) e (owner v)
-
--- the owner of each device after the devices below k
-unfoldable pub sweep : (ℕ → Devices) → (ℕ → Bool) → ℕ → ℕ → ℕ → ℕ
-unfolding paint
-sweep C wanted nobody zero v = nobody
-sweep C wanted nobody (suc k) v =
-    cond (wanted k && eqb (sweep C wanted nobody k k) nobody) (paint (C k) k (sweep C wanted nobody k) v) (sweep C wanted nobody k v)
 
 -- one step: an owner is taken, the device is not wanted, or it is owned
 module _ (C : ℕ → Devices) (wanted : ℕ → Bool) (nobody k : ℕ) where

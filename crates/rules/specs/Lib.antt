@@ -3,6 +3,7 @@
 --     Cut         a set of devices, its out, its size, its cost at a rate
 --     Community   the community of a device, also inside a fence
 --     Groups      the group of a device, its label, the labels at a rate
+--     Sweep       the owners of devices, by going through the devices once
 --     Rates       accepted rates, order of fractions, lowest terms
 --     Refusals    each cause of a refusal, and the first in the fixed order
 --     Figures     K1 to K12 as a list
@@ -10,6 +11,7 @@ pub mod Plant
 pub mod Cut
 pub mod Community
 pub mod Groups
+pub mod Sweep
 pub mod Rates
 pub mod Refusals
 pub mod Figures

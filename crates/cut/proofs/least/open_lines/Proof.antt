@@ -1,0 +1,79 @@
+-- `cut::least::open_lines` meets its contract. The loop's invariant: the lines below l have their room, both ways. The measure is the number of lines left.
+-- Assumes nothing.
+use Prim.Native.Nat.{_-_, _≤_}
+use native.Mathlib.Nat.{mul-le-mul}
+use mathlib.Core.Path.{refl}
+use native.Mathlib.Omega.{arith}
+use lib.ListN.{length}
+use Rattle.cut.proofs.LeastLaws.{Filled, filled-start, filled-step, LineOpen}
+use Rattle.cut.proofs.least.open_lines.Statement.{statement}
+use Rattle.cut.proofs.least.open_lines.Tie as tie
+
+abbrev Inv-loop : tie.InvT-loop
+Inv-loop signals q forth₀ back₀ l₀ forth back l = (l ≤ length signals) × Filled (LineOpen signals q) (length forth₀) forth l × Filled (LineOpen signals q) (length back₀) back l
+
+abbrev μ-loop : tie.MeasureT-loop
+μ-loop signals q forth₀ back₀ l₀ forth back l = length signals - l
+
+loop-holds : tie.Need-loop-holds Inv-loop μ-loop
+loop-holds c = (omega arith, filled-start _ _, filled-start _ _)
+
+mul-room : tie.Need-mul-room Inv-loop μ-loop
+mul-room c = omega arith
+
+shared-slice-read-room : tie.Need-shared-slice-read-room Inv-loop μ-loop
+shared-slice-read-room c = omega arith
+
+mul-room-2 : tie.Need-mul-room-2 Inv-loop μ-loop
+mul-room-2 c = omega (arith, mul-le-mul (c .before .before .before .pre .0 .2) (c .before .before .before .pre .1 (c .before .before .loop .l) (c .before .loop-test .taken)))
+
+mul-forth : tie.Need-mul-forth Inv-loop μ-loop
+mul-forth c = omega arith
+
+slice-write-forth : tie.Need-slice-write-forth Inv-loop μ-loop
+slice-write-forth c = omega (arith, c .before .before .loop .inv .1 .kept)
+
+mul-back : tie.Need-mul-back Inv-loop μ-loop
+mul-back c = omega arith
+
+slice-write-back : tie.Need-slice-write-back Inv-loop μ-loop
+slice-write-back c = omega (arith, c .before .before .loop .inv .2 .kept)
+
+add-l : tie.Need-add-l Inv-loop μ-loop
+add-l c = omega arith
+
+loop-less : tie.Need-loop-less Inv-loop μ-loop
+loop-less c = omega arith
+
+loop-again : tie.Need-loop-again Inv-loop μ-loop
+loop-again c = (omega arith, filled-step (c .before .before .loop .inv .1) (omega arith) _ refl, filled-step (c .before .before .loop .inv .2) (omega arith) _ refl)
+
+same-length : tie.Need-same-length Inv-loop μ-loop
+same-length c = c .before .loop .inv .1 .kept
+
+same-length-2 : tie.Need-same-length-2 Inv-loop μ-loop
+same-length-2 c = c .before .loop .inv .2 .kept
+
+returns : tie.Need-returns Inv-loop μ-loop
+returns c = ((λ l b. c .before .loop .inv .1 .each l (omega arith)), (λ l b. c .before .loop .inv .2 .each l (omega arith)))
+
+pub open-lines-spec : {M : Type 1} → statement M
+open-lines-spec =
+    tie.close
+    (tie.spec
+    Inv-loop
+    μ-loop
+    loop-holds
+    mul-room
+    shared-slice-read-room
+    mul-room-2
+    mul-forth
+    slice-write-forth
+    mul-back
+    slice-write-back
+    add-l
+    loop-less
+    loop-again
+    same-length
+    same-length-2
+    returns)

@@ -1,0 +1,366 @@
+// The community of a device, and the owners of many devices of one plant and rate.
+use crate::check::check_plant;
+use crate::index::index_lines;
+use crate::least::least;
+use crate::rate::Rate;
+use rules::Refusal;
+ghost use mathlib.Core.Path.{_≡_};
+ghost use mathlib.Core.Bool.{true, cond};
+ghost use lib.Dec.{eqb};
+ghost use lib.ListN.{length, getD};
+ghost use Prim.Native.Nat.{ℕ, _≤_, _<_};
+ghost use Rattle.rules.specs.Plant.{plantOf};
+ghost use Rattle.rules.specs.Cut.{size, out};
+ghost use Rattle.rules.specs.Community.{community, communityIn};
+ghost use Rattle.rules.specs.Groups.{table};
+ghost use Rattle.rules.specs.Rates.{rateOk};
+ghost use Rattle.rules.specs.Refusals.{Accepted};
+ghost use Rattle.cut.specs.Search.{sum, Lasts, Priors};
+ghost use Rattle.cut.specs.Calls.{over, marksOf, fenceOf, communityAnswer, communityMarks, ownersOf, ownersFault, ownersAfter};
+
+// Number and place, and of an accepted call the size and the out of the community.
+pub struct Answer {
+    pub number: usize,
+    pub place: usize,
+    pub size: usize,
+    pub out: usize,
+}
+
+// The first n marks are filled in.
+fn copy_marks(n: usize, mark: &[u8; 128], marks: &mut [u8])
+    requires { ⌜ (n ≤ 128) × (n ≤ length (now marks)) ⌝ }
+    ensures { λ _. ⌜ now (marks .exit) ≡ over (table n (λ v. getD (now (mark .entry)) v 0)) (now (marks .entry)) ⌝ }
+{
+    let mut v = 0;
+    while v < n {
+        marks[v] = mark[v];
+        v += 1;
+    }
+}
+
+// How many of the first n devices are marked.
+fn count_marks(n: usize, mark: &[u8; 128]) -> usize
+    requires { ⌜ (n ≤ 128) × ((v : ℕ) → v < n → getD (now mark) v 0 ≤ 1) ⌝ }
+    ensures { λ r. ⌜ r ≡ sum n (λ v. getD (now (mark .entry)) v 0) ⌝ }
+{
+    let mut size = 0;
+    let mut v = 0;
+    while v < n {
+        size += mark[v] as usize;
+        v += 1;
+    }
+    size
+}
+
+// The signals of line l, where its two ends are marked differently.
+fn crossing_signals(
+    firsts: &[usize],
+    seconds: &[usize],
+    signals: &[usize],
+    mark: &[u8; 128],
+    l: usize,
+) -> usize
+    requires { ⌜ (l < length (now firsts)) × (length (now firsts) ≡ length (now seconds)) × (length (now seconds) ≡ length (now signals)) ⌝ }
+    requires { ⌜ (getD (now firsts) l 0 < 128) × (getD (now seconds) l 0 < 128) ⌝ }
+    ensures { λ r. ⌜ r ≡ cond (eqb (getD (now (mark .entry)) (getD (now (firsts .entry)) l 0) 0) (getD (now (mark .entry)) (getD (now (seconds .entry)) l 0) 0)) 0 (getD (now (signals .entry)) l 0) ⌝ }
+{
+    let a = firsts[l];
+    let b = seconds[l];
+    if mark[a] == mark[b] {
+        return 0;
+    }
+    signals[l]
+}
+
+// The signals on lines whose two ends are marked differently.
+fn cut_signals(firsts: &[usize], seconds: &[usize], signals: &[usize], mark: &[u8; 128]) -> usize
+    requires { ⌜ (length (now firsts) ≡ length (now seconds)) × (length (now seconds) ≡ length (now signals)) × (length (now firsts) ≤ 1024) ⌝ }
+    requires { ⌜ ((l : ℕ) → l < length (now firsts) → (getD (now firsts) l 0 < 128) × (getD (now seconds) l 0 < 128) × (getD (now signals) l 0 ≤ 65535)) ⌝ }
+    ensures { λ r. ⌜ r ≡ sum (length (now (firsts .entry))) (λ l. cond (eqb (getD (now (mark .entry)) (getD (now (firsts .entry)) l 0) 0) (getD (now (mark .entry)) (getD (now (seconds .entry)) l 0) 0)) 0 (getD (now (signals .entry)) l 0)) ⌝ }
+{
+    let mut out = 0;
+    let mut l = 0;
+    while l < firsts.len() {
+        out += crossing_signals(firsts, seconds, signals, mark, l);
+        l += 1;
+    }
+    out
+}
+
+// The community of a device of an accepted plant at an accepted rate.
+fn fill_community(
+    n: usize,
+    firsts: &[usize],
+    seconds: &[usize],
+    signals: &[usize],
+    p: usize,
+    q: usize,
+    device: usize,
+    marks: &mut [u8],
+) -> Answer
+    requires { ⌜ Accepted n (now firsts) (now seconds) (now signals) ⌝ }
+    requires { ⌜ (rateOk p q ≡ true) × (device < n) × (n ≤ length (now marks)) ⌝ }
+    ensures { λ r. ⌜ r ≡ record { number = 0; place = 0; size = size (plantOf n (now (firsts .entry)) (now (seconds .entry)) (now (signals .entry))) (community (plantOf n (now (firsts .entry)) (now (seconds .entry)) (now (signals .entry))) p q device); out = out (plantOf n (now (firsts .entry)) (now (seconds .entry)) (now (signals .entry)) .lines) (community (plantOf n (now (firsts .entry)) (now (seconds .entry)) (now (signals .entry))) p q device) } ⌝ }
+    ensures { λ _. ⌜ now (marks .exit) ≡ over (marksOf n (community (plantOf n (now (firsts .entry)) (now (seconds .entry)) (now (signals .entry))) p q device)) (now (marks .entry)) ⌝ }
+{
+    let mut last = [0usize; 128];
+    let mut before_first = [0usize; 1024];
+    let mut before_second = [0usize; 1024];
+    index_lines(
+        firsts,
+        seconds,
+        &mut last,
+        &mut before_first,
+        &mut before_second,
+    );
+    let fence = [0usize; 128];
+    let mut mark = [0u8; 128];
+    least(
+        n,
+        firsts,
+        seconds,
+        signals,
+        p,
+        q,
+        &fence,
+        device,
+        &last,
+        &before_first,
+        &before_second,
+        &mut mark,
+    );
+    copy_marks(n, &mark, marks);
+    let size = count_marks(n, &mark);
+    let out = cut_signals(firsts, seconds, signals, &mark);
+    Answer {
+        number: 0,
+        place: 0,
+        size,
+        out,
+    }
+}
+
+// The community of a device at a rate: fills 1 or 0 for each device, and answers the community's size and out.
+pub fn community(
+    n: usize,
+    firsts: &[usize],
+    seconds: &[usize],
+    signals: &[usize],
+    rate: Rate,
+    device: usize,
+    marks: &mut [u8],
+) -> Answer
+    ensures { λ r. ⌜ r ≡ communityAnswer n (now (firsts .entry)) (now (seconds .entry)) (now (signals .entry)) (rate .p) (rate .q) device (now (marks .entry)) ⌝ }
+    ensures { λ _. ⌜ now (marks .exit) ≡ communityMarks n (now (firsts .entry)) (now (seconds .entry)) (now (signals .entry)) (rate .p) (rate .q) device (now (marks .entry)) ⌝ }
+{
+    let plant = check_plant(n, firsts, seconds, signals);
+    if plant.number != 0 {
+        return Answer {
+            number: plant.number,
+            place: plant.place,
+            size: 0,
+            out: 0,
+        };
+    }
+    if !rate.accepted() {
+        return Answer {
+            number: 9,
+            place: 0,
+            size: 0,
+            out: 0,
+        };
+    }
+    if n <= device {
+        return Answer {
+            number: 10,
+            place: 0,
+            size: 0,
+            out: 0,
+        };
+    }
+    if marks.len() < n {
+        return Answer {
+            number: 12,
+            place: 0,
+            size: 0,
+            out: 0,
+        };
+    }
+    fill_community(n, firsts, seconds, signals, rate.p, rate.q, device, marks)
+}
+
+// Nobody owns any of the first n devices.
+fn clear_owners(n: usize, owner: &mut [usize])
+    requires { ⌜ n ≤ length (now owner) ⌝ }
+    ensures { λ _. ⌜ now (owner .exit) ≡ over (table n (λ v. n)) (now (owner .entry)) ⌝ }
+{
+    let mut v = 0;
+    while v < n {
+        owner[v] = n;
+        v += 1;
+    }
+}
+
+// Device k becomes the owner of the marked devices among the first n.
+fn paint_owners(n: usize, k: usize, mark: &[u8; 128], owner: &mut [usize])
+    requires { ⌜ (n ≤ 128) × (n ≤ length (now owner)) ⌝ }
+    ensures { λ _. ⌜ now (owner .exit) ≡ over (table n (λ v. cond (eqb (getD (now (mark .entry)) v 0) 1) k (getD (now (owner .entry)) v 0))) (now (owner .entry)) ⌝ }
+{
+    let mut v = 0;
+    while v < n {
+        if mark[v] == 1 {
+            owner[v] = k;
+        }
+        v += 1;
+    }
+}
+
+// Device k becomes the owner of the best set that holds it inside its fence.
+fn take_over(
+    n: usize,
+    firsts: &[usize],
+    seconds: &[usize],
+    signals: &[usize],
+    p: usize,
+    q: usize,
+    fence: &[usize],
+    k: usize,
+    last: &[usize; 128],
+    before_first: &[usize; 1024],
+    before_second: &[usize; 1024],
+    owner: &mut [usize],
+)
+    requires { ⌜ Accepted n (now firsts) (now seconds) (now signals) ⌝ }
+    requires { ⌜ (rateOk p q ≡ true) × (k < n) × (n ≤ length (now fence)) × (n ≤ length (now owner)) ⌝ }
+    requires { ⌜ Lasts (now firsts) (now seconds) (length (now firsts)) (now last) ⌝ }
+    requires { ⌜ Priors (now firsts) (now seconds) (length (now firsts)) (now «before_first») (now «before_second») ⌝ }
+    ensures { λ _. ⌜ now (owner .exit) ≡ over (table n (λ v. cond (communityIn (plantOf n (now (firsts .entry)) (now (seconds .entry)) (now (signals .entry))) p q (fenceOf (now (fence .entry)) k) k v) k (getD (now (owner .entry)) v 0))) (now (owner .entry)) ⌝ }
+{
+    let mut mark = [0u8; 128];
+    least(
+        n,
+        firsts,
+        seconds,
+        signals,
+        p,
+        q,
+        fence,
+        k,
+        last,
+        before_first,
+        before_second,
+        &mut mark,
+    );
+    paint_owners(n, k, &mark, owner);
+}
+
+// The owners of the devices of an accepted plant at an accepted rate.
+fn fill_owners(
+    n: usize,
+    firsts: &[usize],
+    seconds: &[usize],
+    signals: &[usize],
+    p: usize,
+    q: usize,
+    fence: &[usize],
+    wanted: &[u8],
+    owner: &mut [usize],
+)
+    requires { ⌜ Accepted n (now firsts) (now seconds) (now signals) ⌝ }
+    requires { ⌜ (rateOk p q ≡ true) × (n ≤ length (now fence)) × (n ≤ length (now wanted)) × (n ≤ length (now owner)) ⌝ }
+    ensures { λ _. ⌜ now (owner .exit) ≡ over (ownersOf (plantOf n (now (firsts .entry)) (now (seconds .entry)) (now (signals .entry))) p q (now (fence .entry)) (now (wanted .entry))) (now (owner .entry)) ⌝ }
+{
+    let mut last = [0usize; 128];
+    let mut before_first = [0usize; 1024];
+    let mut before_second = [0usize; 1024];
+    index_lines(
+        firsts,
+        seconds,
+        &mut last,
+        &mut before_first,
+        &mut before_second,
+    );
+    clear_owners(n, owner);
+    let mut k = 0;
+    while k < n {
+        if wanted[k] != 0 {
+            if owner[k] == n {
+                take_over(
+                    n,
+                    firsts,
+                    seconds,
+                    signals,
+                    p,
+                    q,
+                    fence,
+                    k,
+                    &last,
+                    &before_first,
+                    &before_second,
+                    owner,
+                );
+            }
+        }
+        k += 1;
+    }
+}
+
+// The owners at a rate: device by device from the lowest, a wanted one that nobody owns yet becomes the owner of the best set that holds it inside its fence.
+// The fence of a device is the devices with its own number in `fence`; n stands for nobody.
+pub fn owners(
+    n: usize,
+    firsts: &[usize],
+    seconds: &[usize],
+    signals: &[usize],
+    rate: Rate,
+    fence: &[usize],
+    wanted: &[u8],
+    owner: &mut [usize],
+) -> Refusal
+    ensures { λ r. ⌜ r ≡ ownersFault n (now (firsts .entry)) (now (seconds .entry)) (now (signals .entry)) (rate .p) (rate .q) (length (now (fence .entry))) (length (now (wanted .entry))) (length (now (owner .entry))) ⌝ }
+    ensures { λ _. ⌜ now (owner .exit) ≡ ownersAfter n (now (firsts .entry)) (now (seconds .entry)) (now (signals .entry)) (rate .p) (rate .q) (now (fence .entry)) (now (wanted .entry)) (now (owner .entry)) ⌝ }
+{
+    let plant = check_plant(n, firsts, seconds, signals);
+    if plant.number != 0 {
+        return plant;
+    }
+    if !rate.accepted() {
+        return Refusal {
+            number: 9,
+            place: 0,
+        };
+    }
+    if fence.len() < n {
+        return Refusal {
+            number: 12,
+            place: 0,
+        };
+    }
+    if wanted.len() < n {
+        return Refusal {
+            number: 12,
+            place: 0,
+        };
+    }
+    if owner.len() < n {
+        return Refusal {
+            number: 12,
+            place: 0,
+        };
+    }
+    fill_owners(
+        n,
+        firsts,
+        seconds,
+        signals,
+        rate.p,
+        rate.q,
+        fence,
+        wanted,
+        owner,
+    );
+    Refusal {
+        number: 0,
+        place: 0,
+    }
+}
