@@ -8,6 +8,7 @@ use native.Mathlib.Nat.{le-suc, mul-le-mul, not-suc-le-zero, zero-lt-suc, mul-as
 use native.Mathlib.Omega.{arith}
 use borrow.Author.Tests.{le-leb, lt-leb, leb-true}
 use lib.Dec.{leb}
+use Rattle.rules.proofs.SetLaws.{and-left, and-right}
 use Rattle.rules.specs.Rates.{rateOk, Same, Lowest}
 use Rattle.cut.specs.declared.rate.Reduced.{Reduced}
 use Rattle.cut.specs.RateCalls.{Reduction}
@@ -23,14 +24,6 @@ pub record InRange (p q : ℕ) : Type 0 where
 pub in-range : {p q : ℕ} → InRange p q → rateOk p q ≡ true
 unfolding rateOk
 in-range r = simp (le-leb _ _ (r .p-least), le-leb _ _ (r .p-most), le-leb _ _ (r .q-least), le-leb _ _ (r .q-most))
-
-and-left : (a b : Bool) → (a && b) ≡ true → a ≡ true
-and-left true b e = refl
-and-left false b e = e
-
-and-right : (a b : Bool) → (a && b) ≡ true → b ≡ true
-and-right true b e = e
-and-right false b e = absurd (true≢false (sym e))
 
 pub range-in : (p q : ℕ) → rateOk p q ≡ true → InRange p q
 unfolding rateOk

@@ -13,7 +13,8 @@ use borrow.Author.Tests.{ltb-true, ltb-false, eqb-true, eqb-false, lt-ltb, le-lt
 use Rattle.rules.specs.Plant.{Plant, Sound}
 use Rattle.rules.specs.Cut.{Devices, size, cost, Inside, Agree}
 use Rattle.rules.specs.Community.{with, sets, everyone, better, best, community, within, fenced, communityIn, IsCommunityIn, IsCommunity}
-use Rattle.rules.proofs.Sums.{and-left, and-right, agree-size, agree-cost, below-suc}
+use Rattle.rules.proofs.SetLaws.{and-left, and-right, below-suc}
+use Rattle.rules.proofs.Sums.{agree-size, agree-cost}
 
 -- S comes no later than T: it costs no more, and at equal cost has no more devices
 record NoLater (g : Plant) (p q : ℕ) (S T : Devices) : Type 0 where
@@ -147,10 +148,10 @@ sets-all (suc k) T = go (sets-all k T) (T k) refl
     go r true e =
         let earlier : Agree k (with k (r .0)) T = λ i b. rw (ne-eqb i k (λ h. omega arith)) (r .2 i b) in
         let m = Memᴰ·append-right (sets k) (map-holds (with k) (r .1)) in
-        (with k (r .0), m, below-suc k earlier (rw (eq-eqb k k refl, e)))
+        (with k (r .0), m, below-suc _ k earlier (rw (eq-eqb k k refl, e)))
     go r false e =
         let m = Memᴰ·append-left (map (with k) (sets k)) (r .1) in
-        (r .0, m, below-suc k (r .2) (sets-past k (r .0) (r .1) k (le-refl k) ∙ sym e))
+        (r .0, m, below-suc _ k (r .2) (sets-past k (r .0) (r .1) k (le-refl k) ∙ sym e))
 
 -- a test that only looks at devices below n: the best of all sets comes no later than any set that passes it
 best-of-all :
@@ -178,6 +179,7 @@ unfolding within
 within-inside zero S F e = λ i b h. absurd (omega arith)
 within-inside (suc k) S F e =
     below-suc
+    _
     k
     (within-inside k S F (and-right (not (S k) || F k) (within k S F) e))
     (go (S k) (F k) (and-left (not (S k) || F k) (within k S F) e))

@@ -11,7 +11,8 @@ use borrow.Author.Tests.{lt-ltb}
 use Rattle.rules.specs.Plant.{Line, Plant, EndsBelow, Sound}
 use Rattle.rules.specs.Cut.{Devices, crossing, out, sizeAt, sizeBelow, size, cost, Inside, Agree, minus, between}
 use Rattle.rules.specs.Community.{everyone, community, IsCommunity}
-use Rattle.rules.proofs.Sums.{meet, and-left, agree-size, size-minus, size-holds}
+use Rattle.rules.proofs.SetLaws.{and-left}
+use Rattle.rules.proofs.Sums.{meet, agree-size, size-minus, size-holds}
 use Rattle.rules.proofs.Best.{community-is}
 
 -- no line leaves the set of all devices

@@ -9,7 +9,8 @@ use native.Mathlib.Omega.{arith}
 use Rattle.rules.specs.Plant.{Plant, Sound}
 use Rattle.rules.specs.Cut.{Devices, size, cost, Inside, Agree, minus}
 use Rattle.rules.specs.Community.{community, communityIn, IsCommunityIn, IsCommunity}
-use Rattle.rules.proofs.Sums.{meet, join, and-left, and-right, or-right, inside-both, cost-submodular, cost-posimodular, inside-equal, size-holds}
+use Rattle.rules.proofs.SetLaws.{and-left, and-right, or-right, agree-both}
+use Rattle.rules.proofs.Sums.{meet, join, cost-submodular, cost-posimodular, inside-equal, size-holds}
 use Rattle.rules.proofs.Best.{communityIn-is, community-is}
 
 -- a community is one inside the fence of all devices
@@ -79,8 +80,7 @@ pub only :
     IsCommunityIn g p q F d D →
     Agree (g .devices) C D
 only {g} {C = C} {D = D} c e =
-    inside-both
-    (g .devices)
+    agree-both
     C
     D
     (smallest D c (e .holds) (e .inside) (e .least C (c .holds) (c .inside)))

@@ -12,7 +12,8 @@ use Rattle.rules.specs.Plant.{Plant}
 use Rattle.rules.specs.Cut.{Devices, Inside, Agree, size}
 use Rattle.rules.specs.Community.{community}
 use Rattle.rules.specs.Groups.{larger, largest, groupOf}
-use Rattle.rules.proofs.Family.{Family, below-suc, agree-both, agree-inside, agree-sym}
+use Rattle.rules.proofs.Family.{Family}
+use Rattle.rules.proofs.SetLaws.{below-suc, agree-both, agree-inside, agree-sym}
 
 module _ (g : Plant) (p q : ℕ) where
   abbrev n : ℕ

@@ -12,7 +12,8 @@ use Rattle.rules.specs.Plant.{Plant}
 use Rattle.rules.specs.Cut.{Devices, Agree, size}
 use Rattle.rules.specs.Community.{community}
 use Rattle.rules.specs.Groups.{groupOf, lowest, table, label, groups}
-use Rattle.rules.proofs.Family.{Family, agree-sym}
+use Rattle.rules.proofs.Family.{Family}
+use Rattle.rules.proofs.SetLaws.{agree-sym}
 use Rattle.rules.proofs.GroupLaws.{group-holds, group-same}
 
 -- S without device 0, each other device numbered one lower

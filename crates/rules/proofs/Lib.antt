@@ -1,6 +1,7 @@
 -- The laws of the definitions in specs/.
 --     Figures       K1 to K12
 --     RefusalLaws   the first fault: 0 exactly for an accepted plant
+--     SetLaws       small laws of tests and sets that the others cite
 --     Sums          out, size and cost of two sets together
 --     Best          the community is the best set that holds its device
 --     Communities   the only one; nested or apart
@@ -14,6 +15,7 @@
 --     Sweep         the groups by going through the devices once
 pub mod Figures
 pub mod RefusalLaws
+pub mod SetLaws
 pub mod Sums
 pub mod Best
 pub mod Communities

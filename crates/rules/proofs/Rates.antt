@@ -9,7 +9,8 @@ use native.Mathlib.Omega.{arith}
 use Rattle.rules.specs.Plant.{Plant, Sound}
 use Rattle.rules.specs.Cut.{Devices, out, size, cost, Inside, Agree, minus}
 use Rattle.rules.specs.Community.{community, IsCommunity}
-use Rattle.rules.proofs.Sums.{meet, join, or-right, inside-both, out-submodular, size-modular, size-minus, size-holds}
+use Rattle.rules.proofs.SetLaws.{or-right, agree-both}
+use Rattle.rules.proofs.Sums.{meet, join, out-submodular, size-modular, size-minus, size-holds}
 use Rattle.rules.proofs.Best.{community-is}
 use Rattle.rules.proofs.Communities.{unfenced, smallest}
 
@@ -117,8 +118,7 @@ pub same-rate :
     p * q′ ≡ p′ * q →
     Agree (g .devices) (community g p q d) (community g p′ q′ d)
 same-rate g p q p′ q′ d s b o o′ e =
-    inside-both
-    (g .devices)
+    agree-both
     (community g p q d)
     (community g p′ q′ d)
     (coarser g p q p′ q′ d s b o′ (omega arith))

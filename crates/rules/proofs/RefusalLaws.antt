@@ -10,6 +10,7 @@ use native.Mathlib.Omega.{arith}
 use borrow.Author.Tests.{eq-eqb, ne-eqb, le-leb, lt-leb, le-ltb, lt-ltb, eqb-true, eqb-false, leb-false, ltb-false}
 use lib.Dec.{leb, ltb, eqb, eqb·suc-zero}
 use lib.ListN.{length, getD}
+use Rattle.rules.proofs.SetLaws.{and-left, and-right, or-off-left, or-off-right, not-off}
 use Rattle.rules.specs.declared.Refusal.{Refusal}
 use Rattle.rules.specs.Plant.{Line, Plant, linesOf, plantOf, EndsBelow, Sound}
 use Rattle.rules.specs.Refusals.{done, cause, orElse, firstOf, devicesFault, listsFault, rises, lineFault, linesFrom, linesFault, Causes, inOrder, plantFault, Accepted}
@@ -110,27 +111,6 @@ cause-none : {b : Bool} (k place : ℕ) → b ≡ false → cause b k place ≡ 
 unfolding cause
 cause-none k place e = rw e
 
--- a test that is the first or the second of two
-or-left : (a b : Bool) → (a || b) ≡ false → a ≡ false
-or-left true b e = e
-or-left false b e = refl
-
-or-right : (a b : Bool) → (a || b) ≡ false → b ≡ false
-or-right true b e = absurd (true≢false e)
-or-right false b e = e
-
-and-left : (a b : Bool) → (a && b) ≡ true → a ≡ true
-and-left true b e = refl
-and-left false b e = e
-
-and-right : (a b : Bool) → (a && b) ≡ true → b ≡ true
-and-right true b e = e
-and-right false b e = absurd (true≢false (sym e))
-
-not-off : (a : Bool) → not a ≡ false → a ≡ true
-not-off true e = refl
-not-off false e = absurd (true≢false e)
-
 -- the rules of one line
 pub record LineAccepted (n : ℕ) (xs ys zs : List ℕ) (k : ℕ) : Type 0 where
   pub first : getD xs k 0 < n
@@ -152,12 +132,12 @@ module _ (n : ℕ) (xs ys zs : List ℕ) where
       let e8 = orElse-right _ (clean-cause _ 6 k) e7 in
       let c8 = cause-off _ 7 k (orElse-left _ (clean-cause _ 7 k) e8) in
       record {
-        first = leb-false _ _ (or-left (leb n (getD xs k 0)) _ c5);
-        second = leb-false _ _ (or-right (leb n (getD xs k 0)) _ c5);
+        first = leb-false _ _ (or-off-left (leb n (getD xs k 0)) _ c5);
+        second = leb-false _ _ (or-off-right (leb n (getD xs k 0)) _ c5);
         in-order = leb-false _ _ c6;
         above = not-off _ c7;
-        some-signal = pos (eqb-false _ _ (or-left (eqb (getD zs k 0) 0) _ c8));
-        most-signals = ltb-false _ _ (or-right (eqb (getD zs k 0) 0) _ c8);
+        some-signal = pos (eqb-false _ _ (or-off-left (eqb (getD zs k 0) 0) _ c8));
+        most-signals = ltb-false _ _ (or-off-right (eqb (getD zs k 0) 0) _ c8);
       }
     where
       pos : (getD zs k 0 ≡ 0 → ⊥) → 1 ≤ getD zs k 0

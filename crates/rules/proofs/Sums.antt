@@ -11,6 +11,7 @@ use mathlib.Core.List.{List, [], _∷_}
 use native.Mathlib.Nat.{le-refl, le-step, mul-add, mul-le-mul-left, lt-suc-self, le-suc-iff, suc-inj, eq-zero-or-pos}
 use native.Mathlib.Omega.{arith}
 use mathlib.Core.Logic.{_⊎_, inl, inr}
+use Rattle.rules.proofs.SetLaws.{below-suc}
 use Rattle.rules.specs.Plant.{Line, Plant, EndsBelow, Sound}
 use Rattle.rules.specs.Cut.{Devices, crossing, out, sizeAt, sizeBelow, size, cost, Inside, Agree, minus}
 
@@ -21,27 +22,6 @@ meet S T i = S i && T i
 -- the devices that are in one or the other
 abbrev pub join : Devices → Devices → Devices
 join S T i = S i || T i
-
-pub and-left : (a b : Bool) → (a && b) ≡ true → a ≡ true
-and-left true b e = refl
-and-left false b e = e
-
-pub and-right : (a b : Bool) → (a && b) ≡ true → b ≡ true
-and-right true b e = e
-and-right false b e = absurd (false≢true e)
-
-pub or-right : (a b : Bool) → b ≡ true → (a || b) ≡ true
-or-right true b e = refl
-or-right false b e = e
-
--- two sets inside one another hold the same devices
-pub inside-both : (n : ℕ) (S T : Devices) → Inside n S T → Inside n T S → Agree n S T
-inside-both n S T f h i b = go (S i) (T i) (f i b) (h i b)
-  where
-    go : (x y : Bool) → (x ≡ true → y ≡ true) → (y ≡ true → x ≡ true) → x ≡ y
-    go true y k l = sym (k refl)
-    go false true k l = l refl
-    go false false k l = refl
 
 -- a device counts for at least one
 pub size-pos : (g : Plant) (i : ℕ) → 1 ≤ sizeAt g i
@@ -190,14 +170,6 @@ cond-equal m true b o h l = sym (h refl)
 cond-equal m false true o h l = absurd (omega arith)
 cond-equal m false false o h l = refl
 
--- what holds of each device below k and of k holds of each device below suc k
-pub below-suc : {P : ℕ → Type 0} (k : ℕ) → ((i : ℕ) → i < k → P i) → P k → (i : ℕ) → i < suc k → P i
-below-suc {P} k f h i b = go (le-suc-iff .0 b)
-  where
-    go : (i < k) ⊎ (suc i ≡ suc k) → P i
-    go (inl c) = f i c
-    go (inr e) = rw (suc-inj e) h
-
 below-equal : (g : Plant) (k : ℕ) (S T : Devices) → Inside k S T → sizeBelow g k T ≤ sizeBelow g k S → Agree k S T
 unfolding sizeBelow
 below-equal g zero S T h l = λ i b. absurd (omega arith)
@@ -206,6 +178,7 @@ below-equal g (suc k) S T h l =
     let rest = below-inside g k S T inner in
     let last = cond-inside (sizeAt g k) (S k) (T k) (h k (lt-suc-self k)) in
     below-suc
+    _
     k
     (below-equal g k S T inner (omega arith))
     (cond-equal (sizeAt g k) (S k) (T k) (size-pos g k) (h k (lt-suc-self k)) (omega arith))

@@ -14,7 +14,8 @@ use Rattle.rules.specs.Cut.{Devices, Inside, Agree, size}
 use Rattle.rules.specs.Community.{community}
 use Rattle.rules.specs.Groups.{groupOf, lowest, label}
 use Rattle.rules.specs.Sweep.{paint, sweep}
-use Rattle.rules.proofs.Family.{Family, same-bool, below-suc, agree-both, agree-inside, agree-sym, agree-trans}
+use Rattle.rules.proofs.Family.{Family}
+use Rattle.rules.proofs.SetLaws.{same-bool, below-suc, agree-both, agree-inside, agree-sym, agree-trans}
 use Rattle.rules.proofs.GroupLaws.{group-only, group-same}
 use Rattle.rules.proofs.LabelLaws.{label-from}
 
