@@ -1,0 +1,29 @@
+-- The laws of texts, and what the proofs of the functions cite.
+--     Steps       a word and a number, byte by byte
+--     Fields      a number, a field and a row at a place, and that each lies within the text
+--     Forms       rows one after the other, and the form of a whole text
+--     Lists       lists that are filled step by step
+--     Judged      the first fault of a text, and what reading answers and fills
+--     Placed      words written one after the other, and the digits of a number
+--     Wrote       fields, rows and texts written word by word, and how many bytes they take
+--     Answers     what writing answers and fills
+--     NumberLaws  numbers that are written read back, and those that are read are written so
+--     LineLaws    fields and rows likewise
+--     TextLaws    rows and whole texts likewise
+--     Accepted    which texts are accepted, and what they state
+--     Laws        what reading and writing promise together
+--     Examples    worked texts, computed
+pub mod Steps
+pub mod Fields
+pub mod Forms
+pub mod Lists
+pub mod Judged
+pub mod Placed
+pub mod Wrote
+pub mod Answers
+pub mod NumberLaws
+pub mod LineLaws
+pub mod TextLaws
+pub mod Accepted
+pub mod Laws
+pub mod Examples

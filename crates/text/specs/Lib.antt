@@ -1,0 +1,11 @@
+-- Document 01, "Plant text and listing", as definitions that antt computes. A reader has to believe these files, and those of `rules`.
+--     Numbers     a number in a text, read and written
+--     Lines       one text line, read and written
+--     Form        the form of a whole text
+--     Reading     what reading a text answers and fills
+--     Writing     what writing a plant answers and fills
+pub mod Numbers
+pub mod Lines
+pub mod Form
+pub mod Reading
+pub mod Writing

@@ -1,0 +1,55 @@
+// The text part: reading a plant text into lent lists, and writing one. Document 01, "Plant text and listing".
+mod lines;
+pub mod read;
+mod whole;
+pub mod write;
+
+// The place in a text, beside the text itself.
+pub struct Cursor {
+    pub at: usize,
+}
+
+// What stands at a place, where a number should: whether it is one, its value, and how many bytes it takes.
+pub struct Number {
+    pub ok: bool,
+    pub value: usize,
+    pub used: usize,
+}
+
+// What stands at a place, where a row should.
+pub struct Row {
+    pub ok: bool,
+    pub first: usize,
+    pub second: usize,
+    pub signals: usize,
+    pub used: usize,
+}
+
+// How many rows are as expected, and how many bytes they take.
+pub struct Passed {
+    pub rows: usize,
+    pub used: usize,
+}
+
+// The form of a text: the text line that is not as expected, or 0; the stated numbers; where the rows start.
+pub struct Form {
+    pub line: usize,
+    pub devices: usize,
+    pub lines: usize,
+    pub at: usize,
+}
+
+// What reading answers.
+pub struct Reading {
+    pub number: usize,
+    pub place: usize,
+    pub devices: usize,
+    pub lines: usize,
+}
+
+// What writing answers.
+pub struct Written {
+    pub number: usize,
+    pub place: usize,
+    pub count: usize,
+}

@@ -1,0 +1,95 @@
+// The form of a whole text, at a cursor.
+use crate::Cursor;
+use crate::Form;
+use crate::Passed;
+use crate::lines;
+ghost use mathlib.Core.Path.{_≡_};
+ghost use Prim.Native.Nat.{_≤_, _<_};
+ghost use lib.ListN.{length, drop};
+ghost use Rattle.text.specs.Form.{passed, endFault, rowsFault, wrongLine, form};
+
+// The rows at the cursor, of m that should come, up to the first that is not as expected.
+fn pass_rows(text: &[u8], c: Cursor, m: usize) -> Passed
+    requires { ⌜ c .at ≤ length (now text) ⌝ }
+    ensures { λ r. ⌜ r ≡ passed m (drop (c .at) (now (text .entry))) ⌝ }
+{
+    let at = c.at;
+    let mut rows: usize = 0;
+    let mut used: usize = 0;
+    while rows < m {
+        let r = lines::row_at(text, Cursor { at: at + used });
+        if !r.ok {
+            return Passed { rows, used };
+        }
+        used += r.used;
+        rows += 1;
+    }
+    Passed { rows, used }
+}
+
+// The end of the text at the cursor: the number of the text line that is not as expected, or 0. Text line k should come here.
+fn end_fault(text: &[u8], c: Cursor, k: usize) -> usize
+    requires { ⌜ (c .at ≤ length (now text)) × (k < 4294967296) ⌝ }
+    ensures { λ r. ⌜ r ≡ endFault (drop (c .at) (now (text .entry))) k ⌝ }
+{
+    let at = c.at;
+    if !lines::goes_on(text, c, b"end=plant\n") {
+        return k;
+    }
+    if text.len() - at == 10 {
+        return 0;
+    }
+    k + 1
+}
+
+// The rows and the end at the cursor: the number of the text line that is not as expected, or 0.
+fn rows_fault(text: &[u8], c: Cursor, m: usize) -> usize
+    requires { ⌜ (c .at ≤ length (now text)) × (m < 1000000000) ⌝ }
+    ensures { λ r. ⌜ r ≡ rowsFault m (drop (c .at) (now (text .entry))) ⌝ }
+{
+    let at = c.at;
+    let p = pass_rows(text, c, m);
+    if p.rows == m {
+        let end = at + p.used;
+        return end_fault(text, Cursor { at: end }, 4 + m);
+    }
+    4 + p.rows
+}
+
+// A text whose text line k is not as expected.
+fn wrong_line(k: usize) -> Form
+    ensures { λ r. ⌜ r ≡ wrongLine k ⌝ }
+{
+    Form {
+        line: k,
+        devices: 0,
+        lines: 0,
+        at: 0,
+    }
+}
+
+// The form of a text.
+pub(crate) fn form_of(text: &[u8]) -> Form
+    ensures { λ r. ⌜ r ≡ form (now (text .entry)) ⌝ }
+{
+    if !lines::goes_on(text, Cursor { at: 0 }, b"plant=1\n") {
+        return wrong_line(1);
+    }
+    let n = lines::field_at(text, Cursor { at: 8 }, b"devices=", b"\n");
+    if !n.ok {
+        return wrong_line(2);
+    }
+    let middle = 8 + n.used;
+    let m = lines::field_at(text, Cursor { at: middle }, b"lines=", b"\n");
+    if !m.ok {
+        return wrong_line(3);
+    }
+    let start = middle + m.used;
+    let line = rows_fault(text, Cursor { at: start }, m.value);
+    Form {
+        line,
+        devices: n.value,
+        lines: m.value,
+        at: start,
+    }
+}
