@@ -7,6 +7,7 @@
 --     FillLaws    a loop that fills the front of a lent list
 --     LeastLaws   the loops of the least set
 --     SumLoop     a loop that adds up
+--     Determined  two results that a public contract allows are equal
 --     CallLaws    the public calls: first fault, answer and lent lists, refused and accepted
 --     RoomLaws    what each set costs is what has been sent and what can still leave it: at the start, after a path, at the end
 pub mod RateLaws
@@ -19,3 +20,4 @@ pub mod RoomLaws
 pub mod LeastLaws
 pub mod SumLoop
 pub mod CallLaws
+pub mod Determined

@@ -3,6 +3,7 @@ pub mod check;
 pub mod community;
 mod index;
 mod least;
+pub mod owners;
 mod path;
 pub mod rate;
 mod reach;

@@ -1,4 +1,4 @@
--- `cut::community::fill_owners` meets its contract. The loop's invariant: the owners are those of the sweep over the devices below k. The measure is the number of devices left.
+-- `cut::owners::fill_owners` meets its contract. The loop's invariant: the owners are those of the sweep over the devices below k. The measure is the number of devices left.
 -- Assumes nothing.
 use Prim.Native.Nat.{_-_}
 use mathlib.Core.Path.{refl, sym, ap, _∙_}
@@ -18,8 +18,8 @@ use Rattle.cut.proofs.FillLaws.{over-size, over-over}
 use Rattle.cut.proofs.IndexLaws.{lasts-none}
 use Rattle.cut.proofs.LeastLaws.{laid-accepted}
 use Rattle.cut.proofs.CallLaws.{zeros, cleared-again, Owning, owning-start, owning-size, owning-passed, owning-owned, owning-taken, owning-done, wanted-not, wanted-is, owners-are}
-use Rattle.cut.proofs.community.fill_owners.Statement.{statement}
-use Rattle.cut.proofs.community.fill_owners.Tie as tie
+use Rattle.cut.proofs.owners.fill_owners.Statement.{statement}
+use Rattle.cut.proofs.owners.fill_owners.Tie as tie
 
 abbrev Inv-loop : tie.InvT-loop
 Inv-loop n firsts seconds signals p q fence wanted owner₀ last before-first before-second k₀ owner k =

@@ -1,4 +1,4 @@
--- `cut::community::owners` meets its contract: each way out is the definition's answer at the tests that led there, and the owners are untouched or filled.
+-- `cut::owners::owners` meets its contract: each way out is the definition's answer at the tests that led there, and the owners are untouched or filled.
 -- Assumes nothing.
 use mathlib.Core.Path.{sym, _∙_}
 use native.Mathlib.Nat.{suc-ne-zero}
@@ -6,8 +6,8 @@ use borrow.Author.Needs.{needs}
 use borrow.Author.Tests.{not-true, not-false}
 use Rattle.cut.proofs.CheckLaws.{at}
 use Rattle.cut.proofs.CallLaws.{plant-accepted, same-zero, same-some, owners-plant, owners-9, owners-fence, owners-wanted, owners-room, owners-0, owners-kept, owners-filled}
-use Rattle.cut.proofs.community.owners.Statement.{statement}
-use Rattle.cut.proofs.community.owners.Tie as tie
+use Rattle.cut.proofs.owners.owners.Statement.{statement}
+use Rattle.cut.proofs.owners.owners.Tie as tie
 
 check-plant-requires : tie.Need-check-plant-requires
 check-plant-requires c κs = search needs

@@ -1,4 +1,4 @@
--- `cut::community::take_over` meets its contract: the devices of the least set are painted.
+-- `cut::owners::take_over` meets its contract: the devices of the least set are painted.
 -- Assumes nothing.
 use mathlib.Core.Path.{_∙_}
 use denote.Ref.{now}
@@ -7,8 +7,8 @@ use Rattle.rules.specs.Community.{communityIn}
 use Rattle.cut.specs.Calls.{fenceOf}
 use borrow.Author.Needs.{needs}
 use Rattle.cut.proofs.CallLaws.{painted}
-use Rattle.cut.proofs.community.take_over.Statement.{statement}
-use Rattle.cut.proofs.community.take_over.Tie as tie
+use Rattle.cut.proofs.owners.take_over.Statement.{statement}
+use Rattle.cut.proofs.owners.take_over.Tie as tie
 
 least-requires : tie.Need-least-requires
 least-requires c κs =

@@ -1,11 +1,11 @@
--- `cut::community::clear_owners` meets its contract. The loop's invariant: the first v entries say nobody. The measure is the number left.
+-- `cut::owners::clear_owners` meets its contract. The loop's invariant: the first v entries say nobody. The measure is the number left.
 -- Assumes nothing.
 use Prim.Native.Nat.{_-_}
 use mathlib.Core.Path.{refl}
 use Rattle.cut.proofs.FillLaws.{Filled, filled-start, filled-more, filled-done}
 use borrow.Author.Needs.{needs}
-use Rattle.cut.proofs.community.clear_owners.Statement.{statement}
-use Rattle.cut.proofs.community.clear_owners.Tie as tie
+use Rattle.cut.proofs.owners.clear_owners.Statement.{statement}
+use Rattle.cut.proofs.owners.clear_owners.Tie as tie
 
 abbrev Inv-loop : tie.InvT-loop
 Inv-loop n owner₀ v₀ owner v = Filled n (λ u. n) owner₀ owner v

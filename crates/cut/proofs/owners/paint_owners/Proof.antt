@@ -1,4 +1,4 @@
--- `cut::community::paint_owners` meets its contract. The loop's invariant: the first v entries are painted. The measure is the number left.
+-- `cut::owners::paint_owners` meets its contract. The loop's invariant: the first v entries are painted. The measure is the number left.
 -- Assumes nothing.
 use Prim.Native.Nat.{_-_}
 use mathlib.Core.Bool.{cond}
@@ -8,8 +8,8 @@ use lib.ListN.{getD}
 use borrow.Author.Tests.{eq-eqb, ne-eqb}
 use Rattle.cut.proofs.FillLaws.{Filled, filled-start, filled-more, filled-kept, filled-done}
 use borrow.Author.Needs.{needs}
-use Rattle.cut.proofs.community.paint_owners.Statement.{statement}
-use Rattle.cut.proofs.community.paint_owners.Tie as tie
+use Rattle.cut.proofs.owners.paint_owners.Statement.{statement}
+use Rattle.cut.proofs.owners.paint_owners.Tie as tie
 
 abbrev Inv-loop : tie.InvT-loop
 Inv-loop n k mark owner₀ v₀ owner v = Filled n (λ u. cond (eqb (getD mark u 0) 1) k (getD owner₀ u 0)) owner₀ owner v
