@@ -1,4 +1,5 @@
 -- The laws of the definitions in specs/.
+--     Statements    document 01's sentences on groups, as it says them
 --     Figures       K1 to K12
 --     RefusalLaws   the first fault: 0 exactly for an accepted plant
 --     SetLaws       small laws of tests and sets that the others cite
@@ -12,6 +13,7 @@
 --     LabelLaws     the lowest device of a set, the label of a device, a list by its entries
 --     DistinctLaws  the number of distinct labels: of devices that are their own label
 --     Divides       a lower rate never divides a group of a higher one
+--     Instance      the communities at a rate are such a family; the laws of groups for all positive fractions
 --     Sweep         the groups by going through the devices once
 pub mod Figures
 pub mod RefusalLaws
@@ -27,3 +29,5 @@ pub mod LabelLaws
 pub mod DistinctLaws
 pub mod Divides
 pub mod Sweep
+pub mod Instance
+pub mod Statements

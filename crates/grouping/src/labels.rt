@@ -1,0 +1,28 @@
+// Labels from owners.
+ghost use mathlib.Core.Path.{_≡_};
+ghost use Prim.Native.Nat.{ℕ, _≤_, _<_};
+ghost use lib.ListN.{length, getD};
+ghost use Rattle.rules.specs.Groups.{table, distinct};
+ghost use Rattle.cut.specs.Calls.{over};
+ghost use Rattle.grouping.specs.Level.{firstWith};
+
+// Fills for each device the lowest one with its owner, and counts these.
+pub fn fill(n: usize, owner: [usize; 128], labels: &mut [usize]) -> usize
+    requires { ⌜ (n ≤ 128) × (n ≤ length (now labels)) × ((v : ℕ) → v < n → getD owner v 0 < n) ⌝ }
+    ensures { λ r. ⌜ r ≡ distinct (table n (firstWith n owner)) ⌝ }
+    ensures { λ _. ⌜ now (labels .exit) ≡ over (table n (firstWith n owner)) (now (labels .entry)) ⌝ }
+{
+    let mut first = [n; 128];
+    let mut groups = 0;
+    let mut v = 0;
+    while v < n {
+        let o = owner[v];
+        if first[o] == n {
+            first[o] = v;
+            groups += 1;
+        }
+        labels[v] = first[o];
+        v += 1;
+    }
+    groups
+}

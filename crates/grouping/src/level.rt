@@ -1,0 +1,101 @@
+// Levels: the grouping at a rate as a value, and at a rate between those of two known levels.
+use crate::labels::fill;
+use cut::owners::owners;
+use cut::rate::Rate;
+ghost use mathlib.Core.Path.{_≡_};
+ghost use Prim.Native.Nat.{ℕ, _≤_, _<_};
+ghost use mathlib.Core.Bool.{true};
+ghost use Rattle.rules.specs.Plant.{plantOf};
+ghost use Rattle.rules.specs.Rates.{rateOk};
+ghost use Rattle.rules.specs.Refusals.{Accepted};
+ghost use Rattle.cut.specs.Calls.{wantedIn};
+ghost use Rattle.grouping.specs.Level.{LevelAt, Enough, everybody, heads, Between};
+
+// A level: for each device the lowest device of its group and one whose community the group is, and the number of groups.
+pub struct Level {
+    pub labels: [usize; 128],
+    pub owner: [usize; 128],
+    pub groups: usize,
+}
+
+// Marks the devices that own themselves.
+fn marked(n: usize, owner: [usize; 128]) -> [u8; 128]
+    requires { ⌜ n ≤ 128 ⌝ }
+    ensures { λ r. ⌜ ((v : ℕ) → v < n → wantedIn r v ≡ heads owner v) ⌝ }
+{
+    let mut wanted = [0u8; 128];
+    let mut v = 0;
+    while v < n {
+        if owner[v] == v {
+            wanted[v] = 1;
+        }
+        v += 1;
+    }
+    wanted
+}
+
+// The level at a rate, by a search of the wanted devices inside their fences.
+fn level_inside(
+    n: usize,
+    firsts: &[usize],
+    seconds: &[usize],
+    signals: &[usize],
+    rate: Rate,
+    fence: [usize; 128],
+    wanted: [u8; 128],
+) -> Level
+    requires { ⌜ (rateOk (rate .p) (rate .q) ≡ true) × Accepted n (now firsts) (now seconds) (now signals) × Enough (plantOf n (now firsts) (now seconds) (now signals)) (rate .p) (rate .q) fence wanted ⌝ }
+    ensures { λ r. ⌜ LevelAt (plantOf n (now (firsts .entry)) (now (seconds .entry)) (now (signals .entry))) (rate .p) (rate .q) (wantedIn wanted) r ⌝ }
+{
+    let mut owner = [0usize; 128];
+    owners(
+        n,
+        firsts,
+        seconds,
+        signals,
+        rate,
+        &fence,
+        &wanted,
+        &mut owner,
+    );
+    let mut labels = [0usize; 128];
+    let groups = fill(n, owner, &mut labels);
+    Level {
+        labels,
+        owner,
+        groups,
+    }
+}
+
+// The level at a rate.
+pub fn level_at(
+    n: usize,
+    firsts: &[usize],
+    seconds: &[usize],
+    signals: &[usize],
+    rate: Rate,
+) -> Level
+    requires { ⌜ (rateOk (rate .p) (rate .q) ≡ true) × Accepted n (now firsts) (now seconds) (now signals) ⌝ }
+    ensures { λ r. ⌜ LevelAt (plantOf n (now (firsts .entry)) (now (seconds .entry)) (now (signals .entry))) (rate .p) (rate .q) everybody r ⌝ }
+{
+    level_inside(n, firsts, seconds, signals, rate, [0usize; 128], [1u8; 128])
+}
+
+// The level at a rate between those of two known levels: one search for each group of the finer, inside the coarser's group.
+pub fn level_between(
+    n: usize,
+    firsts: &[usize],
+    seconds: &[usize],
+    signals: &[usize],
+    rate: Rate,
+    finer: Level,
+    coarser: Level,
+) -> Level
+    requires { ⌜ (rateOk (rate .p) (rate .q) ≡ true) × Accepted n (now firsts) (now seconds) (now signals) × Between (plantOf n (now firsts) (now seconds) (now signals)) (rate .p) (rate .q) finer coarser ⌝ }
+    ensures { λ r. ⌜ LevelAt (plantOf n (now (firsts .entry)) (now (seconds .entry)) (now (signals .entry))) (rate .p) (rate .q) (heads (finer .owner)) r ⌝ }
+{
+    let owner = finer.owner;
+    let fence = coarser.labels;
+    let wanted = marked(n, owner);
+    level_inside(n, firsts, seconds, signals, rate, fence, wanted)
+}
