@@ -16,26 +16,8 @@ use borrow.Author.Tests.{eq-eqb, ne-eqb, eqb-true}
 use lib.Dec.{eqb}
 use lib.ListN.{length, getD, set, length-set}
 use lib.Seq.{getD-set-same, getD-set-other}
+use Rattle.cut.proofs.EndLaws.{touches-first, touches-second, touches-neither, touches-other}
 use Rattle.cut.specs.Search.{touches, Laid, Before, Lasts, Priors}
-
--- whether a device is an end of line l
-module _ (xs ys : List ℕ) (l v : ℕ) where
-  pub touches-first : getD xs l 0 ≡ v → touches xs ys l v ≡ true
-  unfolding touches
-  touches-first e = rw (eq-eqb _ _ e)
-
-  pub touches-second : getD ys l 0 ≡ v → touches xs ys l v ≡ true
-  unfolding touches
-  touches-second e = rw (eq-eqb _ _ e) (or-true (eqb (getD xs l 0) v))
-
-  pub touches-neither : (getD xs l 0 ≡ v → ⊥) → (getD ys l 0 ≡ v → ⊥) → touches xs ys l v ≡ false
-  unfolding touches
-  touches-neither h i = rw (ne-eqb _ _ h, ne-eqb _ _ i)
-
-  -- the end that is not the first is the second
-  pub touches-other : touches xs ys l v ≡ true → (getD xs l 0 ≡ v → ⊥) → getD ys l 0 ≡ v
-  unfolding touches
-  touches-other t h = eqb-true _ _ (rw (ne-eqb _ _ h) at t)
 
 module _ (xs ys : List ℕ) (v : ℕ) where
   pub before-none : Before xs ys v 0 0

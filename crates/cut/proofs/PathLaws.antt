@@ -1,6 +1,5 @@
 -- The way back from a place of the queue to place 0, and what goes along it.
---     sum-same, sum-change              sums that agree at every place, or at every place but one
---     far-.., room-..                   the far end and the room of a line, by which of its ends a device is
+--     far-two                           the far ends of two devices of one line
 --     over-sent                         what goes over one line out of one of its ends has gone to the other end
 --     sent-none, sent-on                nothing has gone from a device to itself; what went on to a place went on from the place before
 --     clear-room, clear-rest            the last line of a way with room left, and the way before it
@@ -20,47 +19,10 @@ use borrow.Author.Tests.{eq-eqb, ne-eqb}
 use lib.Dec.{eqb}
 use lib.ListN.{length, getD}
 use lib.Seq.{getD-set-same, getD-set-other}
+use Rattle.cut.proofs.SumLaws.{sum-change}
+use Rattle.cut.proofs.EndLaws.{touches-other, far-first, far-second}
 use Rattle.cut.specs.Search.{sum, passing, linesLeave, roomFrom, farEnd, touches, Way, Clear, start, onward, forthAfter, backAfter, Sent}
-use Rattle.cut.proofs.IndexLaws.{touches-other}
 use Rattle.rules.specs.Cut.{Devices}
-
-pub sum-same : (m : ℕ) (f g : ℕ → ℕ) → ((k : ℕ) → k < m → f k ≡ g k) → sum m f ≡ sum m g
-unfolding sum
-sum-same zero f g h = refl
-sum-same (suc m) f g h = rw (sum-same m f g (λ k b. h k (le-step b)), h m (lt-suc-self m))
-
--- f and g agree below m but at l
-pub sum-change : (m : ℕ) (f g : ℕ → ℕ) (l : ℕ) → l < m → ((k : ℕ) → k < m → (k ≡ l → ⊥) → f k ≡ g k) → sum m g + f l ≡ sum m f + g l
-unfolding sum
-sum-change zero f g l b h = absurd (omega arith)
-sum-change (suc m) f g l b h = go (ℕ-discrete m l) (sum-change m f g l)
-  where
-    go : Dec (m ≡ l) → (l < m → ((k : ℕ) → k < m → (k ≡ l → ⊥) → f k ≡ g k) → sum m g + f l ≡ sum m f + g l)
-        → (sum m g + g m) + f l ≡ (sum m f + f m) + g l
-    go (yes e) ih =
-        let s : sum m f ≡ sum m g = sum-same m f g (λ k c. h k (le-step c) (λ (d : k ≡ l). omega arith)) in
-        omega (arith, ap f e, ap g e)
-    go (no i) ih = omega (arith, ih (omega arith) (λ k c. h k (le-step c)), h m (lt-suc-self m) i)
-
--- the ends of line l
-module _ (xs ys : List ℕ) (l u : ℕ) where
-  pub far-first : getD xs l 0 ≡ u → farEnd xs ys l u ≡ getD ys l 0
-  unfolding farEnd
-  far-first e = rw (eq-eqb _ _ e)
-
-  pub far-second : (getD xs l 0 ≡ u → ⊥) → farEnd xs ys l u ≡ getD xs l 0
-  unfolding farEnd
-  far-second h = rw (ne-eqb _ _ h)
-
--- the room of line l out of u
-module _ (xs fs rs : List ℕ) (l u : ℕ) where
-  pub room-first : getD xs l 0 ≡ u → roomFrom xs fs rs l u ≡ getD fs l 0
-  unfolding roomFrom
-  room-first e = rw (eq-eqb _ _ e)
-
-  pub room-second : (getD xs l 0 ≡ u → ⊥) → roomFrom xs fs rs l u ≡ getD rs l 0
-  unfolding roomFrom
-  room-second h = rw (ne-eqb _ _ h)
 
 -- of two devices that a line touches, the far ends are the same, or the second is the far end of the first
 pub far-two : (xs ys : List ℕ) (l u v : ℕ) → touches xs ys l u ≡ true → touches xs ys l v ≡ true

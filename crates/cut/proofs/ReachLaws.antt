@@ -11,6 +11,7 @@ use borrow.Author.Tests.{eq-eqb, ne-eqb}
 use lib.Dec.{eqb}
 use lib.ListN.{length, getD, set, replicate, length-replicate, getD-replicate}
 use lib.Seq.{getD-set-same, getD-set-other}
+use Rattle.cut.proofs.SumLaws.{sum-most, sum-change, sum-one}
 use Rattle.cut.specs.Search.{sum, roomFrom, farEnd, touches, Laid, Before, Tree, Scan, Found}
 
 -- the two sides of a question on numbers
@@ -22,40 +23,6 @@ below-or-not i j = elim (decLt i j) [ yes h ↦ inl h | no h ↦ inr (omega arit
 
 last-or-before : (j k : ℕ) → j < k + 1 → (j < k) ⊎ (j ≡ k)
 last-or-before j k l = ⊎-elim inl (λ h. inr (omega arith)) (below-or-not j k)
-
--- ---- sums
-pub sum-same : (k : ℕ) (f g : ℕ → ℕ) → ((v : ℕ) → v < k → f v ≡ g v) → sum k f ≡ sum k g
-unfolding sum
-sum-same zero f g h = refl
-sum-same (suc k) f g h = rw (sum-same k f g (λ v l. h v (omega arith)), h k (omega arith))
-
-pub sum-none : (k : ℕ) → sum k (λ v. 0) ≡ 0
-unfolding sum
-sum-none zero = refl
-sum-none (suc k) = rw (sum-none k)
-
--- of a function changed at w alone
-pub sum-changed : (k : ℕ) (f g : ℕ → ℕ) (w : ℕ) → w < k → ((v : ℕ) → v < k → (v ≡ w → ⊥) → f v ≡ g v) → sum k g + f w ≡ sum k f + g w
-unfolding sum
-sum-changed (suc k) f g w l h = ⊎-elim (λ m. below m (sum-changed k f g w m (λ v n. h v (omega arith)))) last (last-or-before w k (omega arith))
-  where
-    below : w < k → sum k g + f w ≡ sum k f + g w → (sum k g + g k) + f w ≡ (sum k f + f k) + g w
-    below m e = omega (arith, h k (omega arith) (omega arith))
-
-    last : w ≡ k → (sum k g + g k) + f w ≡ (sum k f + f k) + g w
-    last e = rw e (omega (arith, sum-same k f g (λ v n. h v (omega arith) (omega arith))))
-
-pub sum-most : (k : ℕ) (f : ℕ → ℕ) → ((v : ℕ) → v < k → f v ≤ 1) → sum k f ≤ k
-unfolding sum
-sum-most zero f h = omega arith
-sum-most (suc k) f h = omega (arith, sum-most k f (λ v l. h v (omega arith)), h k (omega arith))
-
--- of a list that marks d alone
-pub sum-one : (k : ℕ) (f : ℕ → ℕ) (d : ℕ) → d < k → ((v : ℕ) → v < k → f v ≡ cond (eqb v d) 1 0) → sum k f ≡ 1
-sum-one k f d l h =
-    let others : (v : ℕ) → v < k → (v ≡ d → ⊥) → 0 ≡ f v = λ v m n. rw (h v m, ne-eqb v d n) in
-    let own : f d ≡ 1 = rw (h d l, eq-eqb d d refl) in
-    omega (arith, sum-changed k (λ v. 0) f d l others, sum-none k)
 
 -- ---- the far end of a line is a device
 pub far-device : {xs ys : List ℕ} (l u : ℕ) → Laid xs ys → l < length xs → farEnd xs ys l u < 128
@@ -75,7 +42,7 @@ module _ {xs ys fs rs : List ℕ} {d : ℕ} {nodes vias froms marks : List ℕ} 
   mark-small v m = ⊎-elim (λ e. omega arith) (λ e. omega arith) (mark-or-none v m)
 
   pub count-most : count ≤ 128
-  count-most = omega (arith, tree .counted, sum-most 128 (λ v. getD marks v 0) mark-small)
+  count-most = omega (arith, tree .counted, sum-most 128 (λ v. getD marks v 0) 1 mark-small)
 
   pub mark-one : (v : ℕ) → v < 128 → (getD marks v 0 ≡ 0 → ⊥) → getD marks v 0 ≡ 1
   mark-one v m h = ⊎-elim (λ e. absurd (h e)) (λ e. e) (mark-or-none v m)
@@ -157,13 +124,13 @@ module _ {xs ys fs rs : List ℕ} {d : ℕ} {nodes vias froms marks : List ℕ} 
 
   marks-counted : count + 1 ≡ sum 128 (λ v. getD (set marks w 1) v 0)
   marks-counted =
-      omega (arith, sum-changed 128 (λ v. getD marks v 0) (λ v. getD (set marks w 1) v 0) w new-device (λ v m n. sym (mark-stays v n)), tree .counted, leads .new, mark-new)
+      omega (arith, sum-change 128 (λ v. getD marks v 0) (λ v. getD (set marks w 1) v 0) w new-device (λ v m n. mark-stays v n), tree .counted, leads .new, mark-new)
 
   new-mark-small : (v : ℕ) → v < 128 → getD (set marks w 1) v 0 ≤ 1
   new-mark-small v m = ⊎-elim (λ q. rw q (omega (arith, mark-new))) (λ n. rw (mark-stays v n) (mark-small tree v m)) (same-or-not v w)
 
   pub count-small : count < 128
-  count-small = omega (arith, marks-counted, sum-most 128 (λ v. getD (set marks w 1) v 0) new-mark-small)
+  count-small = omega (arith, marks-counted, sum-most 128 (λ v. getD (set marks w 1) v 0) 1 new-mark-small)
 
   -- the entries at the places before, and the new ones
   stays : (xs : List ℕ) (x j : ℕ) → j < count → getD (set xs count x) j 0 ≡ getD xs j 0

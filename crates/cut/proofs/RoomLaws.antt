@@ -25,58 +25,9 @@ use Rattle.rules.proofs.Sums.{size-inside}
 use Rattle.rules.proofs.Communities.{communityIn-only}
 use Rattle.rules.proofs.LabelLaws.{length-table, getD-table}
 use Rattle.cut.specs.Calls.{fenceOf}
+use Rattle.cut.proofs.SumLaws.{sum-agree, sum-most, sum-change, sum-zero, zero-sum, sum-scale, sum-front}
+use Rattle.cut.proofs.EndLaws.{touches-first, touches-second, far-first, far-second, room-first, room-second}
 use Rattle.cut.specs.Search.{sum, passing, linesLeave, drainsLeave, roomFrom, farEnd, touches, Laid, Way, Scan, Sent, Rooms}
-
--- sums
-pub sum-agree : (m : ℕ) (f h : ℕ → ℕ) → ((k : ℕ) → k < m → f k ≡ h k) → sum m f ≡ sum m h
-unfolding sum
-sum-agree zero f h a = refl
-sum-agree (suc m) f h a = ap₂ _+_ (sum-agree m f h (λ k b. a k (le-step b))) (a m (lt-suc-self m))
-
-pub sum-most : (m : ℕ) (f : ℕ → ℕ) (b : ℕ) → ((k : ℕ) → k < m → f k ≤ b) → sum m f ≤ m * b
-unfolding sum
-sum-most zero f b a = zero-le
-sum-most (suc m) f b a =
-    let rest = sum-most m f b (λ k c. a k (le-step c)) in
-    omega (arith, a m (lt-suc-self m), suc-mul m b)
-
--- two that differ only at l
-pub sum-change : (m : ℕ) (f h : ℕ → ℕ) (l : ℕ) → l < m → ((k : ℕ) → k < m → (k ≡ l → ⊥) → h k ≡ f k) → sum m h + f l ≡ sum m f + h l
-unfolding sum
-sum-change zero f h l b a = absurd (omega arith)
-sum-change (suc m) f h l b a = go (le-suc-iff .0 b) (λ c. sum-change m f h l c (λ k e. a k (le-step e)))
-  where
-    go : (l < m) ⊎ (suc l ≡ suc m) → (l < m → sum m h + f l ≡ sum m f + h l) → sum m h + h m + f l ≡ sum m f + f m + h l
-    go (inl c) rec = omega (arith, rec c, a m (lt-suc-self m) (λ e. omega arith))
-    go (inr e) rec =
-        let last : l ≡ m = suc-inj e in
-        let same : sum m h ≡ sum m f = sum-agree m h f (λ k c. a k (le-step c) (λ z. omega arith)) in
-        rw last (omega arith)
-
--- a sum is 0 exactly where each part is
-pub sum-zero : (m : ℕ) (f : ℕ → ℕ) → sum m f ≡ 0 → (k : ℕ) → k < m → f k ≡ 0
-unfolding sum
-sum-zero zero f e k b = absurd (omega arith)
-sum-zero (suc m) f e k b = go (le-suc-iff .0 b) (sum-zero m f (omega arith) k)
-  where
-    go : (k < m) ⊎ (suc k ≡ suc m) → (k < m → f k ≡ 0) → f k ≡ 0
-    go (inl c) rec = rec c
-    go (inr s) rec = rw (suc-inj s) (omega arith)
-
-pub zero-sum : (m : ℕ) (f : ℕ → ℕ) → ((k : ℕ) → k < m → f k ≡ 0) → sum m f ≡ 0
-unfolding sum
-zero-sum zero f a = refl
-zero-sum (suc m) f a = omega (arith, zero-sum m f (λ k b. a k (le-step b)), a m (lt-suc-self m))
-
-pub sum-scale : (m c : ℕ) (f : ℕ → ℕ) → sum m (λ k. c * f k) ≡ c * sum m f
-unfolding sum
-sum-scale zero c f = sym (mul-zero c)
-sum-scale (suc m) c f = rw (mul-add, sum-scale m c f)
-
-pub sum-front : (m : ℕ) (f : ℕ → ℕ) → sum (suc m) f ≡ f 0 + sum m (λ k. f (suc k))
-unfolding sum
-sum-front zero f = omega arith
-sum-front (suc m) f = omega (arith, sum-front m f)
 
 -- out and size as sums
 pub size-one : (g : Plant) (v : ℕ) → sizeAt g v ≡ 1
@@ -310,39 +261,6 @@ nodes-below {xs} {ys} {nodes} {vias} {froms} n way root first second =
     far l true b = second l b
     far l false b = first l b
 
--- a line seen from its first end, and from its second
-module _ (xs ys : List ℕ) (l : ℕ) where
-  same-first : eqb (getD xs l 0) (getD xs l 0) ≡ true
-  same-first = eq-eqb (getD xs l 0) (getD xs l 0) refl
-
-  pub touches-first : touches xs ys l (getD xs l 0) ≡ true
-  unfolding touches
-  touches-first = rw same-first
-
-  pub room-first : (fs rs : List ℕ) → roomFrom xs fs rs l (getD xs l 0) ≡ getD fs l 0
-  unfolding roomFrom
-  room-first fs rs = rw same-first
-
-  pub far-first : farEnd xs ys l (getD xs l 0) ≡ getD ys l 0
-  unfolding farEnd
-  far-first = rw same-first
-
-  module _ (differ : getD xs l 0 < getD ys l 0) where
-    other-first : eqb (getD xs l 0) (getD ys l 0) ≡ false
-    other-first = ne-eqb (getD xs l 0) (getD ys l 0) (λ e. omega arith)
-
-    pub touches-second : touches xs ys l (getD ys l 0) ≡ true
-    unfolding touches
-    touches-second = rw (other-first, eq-eqb (getD ys l 0) (getD ys l 0) refl)
-
-    pub room-second : (fs rs : List ℕ) → roomFrom xs fs rs l (getD ys l 0) ≡ getD rs l 0
-    unfolding roomFrom
-    room-second fs rs = rw other-first
-
-    pub far-second : farEnd xs ys l (getD ys l 0) ≡ getD xs l 0
-    unfolding farEnd
-    far-second = rw other-first
-
 -- the devices that are marked 1
 abbrev marked : List ℕ → Devices
 marked marks v = eqb (getD marks v 0) 1
@@ -370,12 +288,12 @@ module _ {n : ℕ} {xs ys zs : List ℕ} {p q : ℕ} {fence : List ℕ} {d : ℕ
   lines-shut = zero-sum (length xs) _ (λ l b. none-passing (marked marks (getD xs l 0)) (marked marks (getD ys l 0)) (getD fs l 0) (getD rs l 0) (forth l b) (back l b))
     where
       forth : (l : ℕ) → l < length xs → marked marks (getD xs l 0) ≡ true → 1 ≤ getD fs l 0 → marked marks (getD ys l 0) ≡ true
-      forth l b m h = rw (far-first xs ys l) at (onward l (getD xs l 0) b (laid .first l b) m (touches-first xs ys l) (rw (room-first xs ys l fs rs) h))
+      forth l b m h = rw (far-first xs ys l (getD xs l 0) refl) at (onward l (getD xs l 0) b (laid .first l b) m (touches-first xs ys l (getD xs l 0) refl) (rw (room-first xs fs rs l (getD xs l 0) refl) h))
 
       back : (l : ℕ) → l < length xs → marked marks (getD ys l 0) ≡ true → 1 ≤ getD rs l 0 → marked marks (getD xs l 0) ≡ true
       back l b m h =
-          let differ = laid .differ l b in
-          rw (far-second xs ys l differ) at (onward l (getD ys l 0) b (laid .second l b) m (touches-second xs ys l differ) (rw (room-second xs ys l differ fs rs) h))
+          let differ : getD xs l 0 ≡ getD ys l 0 → ⊥ = λ e. omega (arith, laid .differ l b) in
+          rw (far-second xs ys l (getD ys l 0) differ) at (onward l (getD ys l 0) b (laid .second l b) m (touches-second xs ys l (getD ys l 0) refl) (rw (room-second xs fs rs l (getD ys l 0) differ) h))
 
   marked-dry : (v : ℕ) → v < n → marked marks v ≡ true → getD ws v 0 ≡ 0
   marked-dry v b m =

@@ -6,7 +6,7 @@ use native.Mathlib.Nat.{le-trans, le-of-eq, mul-le-mul-right, lt-of-lt-of-le, le
 use native.Mathlib.Numerals.{add-one, add-one-le}
 use native.Mathlib.Omega.{arith}
 use Rattle.cut.specs.Search.{sum}
-use Rattle.cut.proofs.RoomLaws.{sum-most}
+use Rattle.cut.proofs.SumLaws.{sum-most}
 
 pub record Summed (n : ℕ) (f : ℕ → ℕ) (total k : ℕ) : Type 0 where
   pub within : k ≤ n

@@ -6,7 +6,7 @@ use borrow.Author.Tests.{eq-eqb, ne-eqb}
 use denote.Ref.{now}
 use lib.ListN.{getD}
 use Rattle.cut.specs.Search.{forthAfter, backAfter}
-use Rattle.cut.proofs.PathLaws.{room-first, room-second}
+use Rattle.cut.proofs.EndLaws.{room-first, room-second}
 use borrow.Author.Needs.{needs}
 use Rattle.cut.proofs.path.send_over.Statement.{statement}
 use Rattle.cut.proofs.path.send_over.Tie as tie
