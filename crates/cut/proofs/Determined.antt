@@ -2,11 +2,9 @@
 -- Assumes nothing.
 use Prim.Native.Nat.{ℕ}
 use mathlib.Core.Path.{_≡_, sym, _∙_}
-use mathlib.Core.Bool.{Bool}
 use mathlib.Core.List.{List}
 use lib.ListN.{length}
 use Rattle.rules.specs.declared.Refusal.{Refusal}
-use Rattle.rules.specs.Rates.{rateOk}
 use Rattle.rules.specs.Refusals.{plantFault}
 use Rattle.cut.specs.declared.rate.Compared.{Compared}
 use Rattle.cut.specs.declared.community.Answer.{Answer}
@@ -19,9 +17,6 @@ both e f = e ∙ sym f
 
 pub check-determined : (n : ℕ) (xs ys zs : List ℕ) (r r′ : Refusal) → r ≡ plantFault n xs ys zs → r′ ≡ plantFault n xs ys zs → r ≡ r′
 check-determined n xs ys zs r r′ = both
-
-pub accepted-determined : (p q : ℕ) (b b′ : Bool) → b ≡ rateOk p q → b′ ≡ rateOk p q → b ≡ b′
-accepted-determined p q b b′ = both
 
 pub compare-determined : (p q s t : ℕ) (r r′ : Compared) → r ≡ compared p q s t → r′ ≡ compared p q s t → r ≡ r′
 compare-determined p q s t r r′ = both

@@ -47,7 +47,7 @@ impl Rate {
     pub const LARGEST: Rate = Rate { p: 100000000, q: 1 };
 
     // Whether p and q are in range.
-    pub fn accepted(self) -> bool
+    pub(crate) fn accepted(self) -> bool
         ensures { λ r. ⌜ r ≡ rateOk (self .p) (self .q) ⌝ }
     {
         let p = self.p;
