@@ -1,0 +1,93 @@
+// Runs the case tables: each row of standard input is a case, and after a semicolon the expected answer.
+// The case goes through the proved calls, and its line in the output has the answer and whether it is the expected one. A row that starts with # is a heading.
+mod checks;
+mod communities;
+mod groups;
+mod plants;
+mod print;
+mod rates;
+mod row;
+mod texts;
+
+use libc::STDIN_FILENO;
+use print::Line;
+use print::Tally;
+
+// The answer to a case, printed and held against the expected one.
+fn answer(case: &[u8], expected: &[u8]) -> Line {
+    let r = row::numbers_of(case);
+    let list = r.list;
+    if row::starts(case, b"compare") {
+        return rates::compare(&list, expected);
+    }
+    if row::starts(case, b"reduce") {
+        return rates::reduce(&list, expected);
+    }
+    if row::starts(case, b"check") {
+        return checks::plant(&list, r.count, expected);
+    }
+    if row::starts(case, b"lists") {
+        return checks::lists(&list, expected);
+    }
+    if row::starts(case, b"community") {
+        return communities::plant(&list, r.count, expected);
+    }
+    if row::starts(case, b"large community") {
+        return communities::made(&list, expected);
+    }
+    if row::starts(case, b"owners") {
+        return communities::owned(&list, r.count, expected);
+    }
+    if row::starts(case, b"groups") {
+        return groups::plant(&list, r.count, expected);
+    }
+    if row::starts(case, b"large groups") {
+        return groups::made(&list, expected);
+    }
+    if row::starts(case, b"read") {
+        return texts::read(case, expected);
+    }
+    if row::starts(case, b"long") {
+        return texts::long(&list, case, expected);
+    }
+    if row::starts(case, b"full") {
+        return texts::full_x(&list, expected);
+    }
+    if row::starts(case, b"write") {
+        return texts::write(&list, r.count, expected);
+    }
+    print::unknown()
+}
+
+// One row: the case and its answer.
+fn run(t: Tally, text: &[u8]) -> Tally {
+    if row::starts(text, b"#") {
+        return t;
+    }
+    let end = row::find(text, 0, b';');
+    let case = row::head(text, end);
+    let expected = row::rest(text, end, 2);
+    print::text(b"case=");
+    print::text(case);
+    print::text(b": ");
+    let line = answer(case, expected);
+    print::verdict(t, line, expected)
+}
+
+// All rows of a table.
+fn run_all(table: &[u8]) -> Tally {
+    let mut t = Tally { cases: 0, wrong: 0 };
+    let mut start = 0;
+    while start < table.len() {
+        let end = row::find(table, start, b'\n');
+        t = run(t, &table[start..end]);
+        start = end + 1;
+    }
+    t
+}
+
+fn main() {
+    let mut space = io::large_buffer();
+    let k = io::read_full(STDIN_FILENO, &mut space);
+    print::total(run_all(&space[..k]));
+}

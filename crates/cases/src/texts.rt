@@ -1,0 +1,160 @@
+// Plant texts: reading and writing. In a row of the table | stands for a newline, and ~ for a carriage return.
+use crate::plants;
+use crate::print;
+use crate::print::Line;
+use crate::row;
+use text::Reading;
+use text::read::read_plant;
+use text::write::write_plant;
+
+// The byte that a byte of a row stands for.
+fn meant(byte: u8) -> u8 {
+    if byte == b'|' {
+        return b'\n';
+    }
+    if byte == b'~' {
+        return b'\r';
+    }
+    byte
+}
+
+// The bytes that a row stands for, as many as there is room for, and how many they are.
+fn spell(case: &[u8], bytes: &mut [u8]) -> usize {
+    let mut i = 0;
+    while i < case.len() {
+        if bytes.len() <= i {
+            return i;
+        }
+        bytes[i] = meant(case[i]);
+        i += 1;
+    }
+    i
+}
+
+// What reading answers.
+fn answered(r: Reading, expected: &[u8]) -> Line {
+    let line = print::refusal(expected, r.number, r.place);
+    let line = print::value(line, expected, b" devices=", r.devices);
+    print::value(line, expected, b" lines=", r.lines)
+}
+
+// " back" where the text of a plant is the one that it was read from.
+fn back(
+    line: Line,
+    r: Reading,
+    firsts: &[usize],
+    seconds: &[usize],
+    signals: &[usize],
+    bytes: &[u8],
+    expected: &[u8],
+) -> Line {
+    let mut written = [0; 32768];
+    let w = write_plant(
+        r.devices,
+        row::part(firsts, r.lines),
+        row::part(seconds, r.lines),
+        row::part(signals, r.lines),
+        &mut written,
+    );
+    let again = row::head(&written, w.count);
+    if w.number == 0 && again.len() == bytes.len() && row::starts(again, bytes) {
+        return print::say(line, expected, b" back");
+    }
+    line
+}
+
+// Reading into lists of three entries, which all are 77 before, with the lists afterwards.
+fn read_in(bytes: &[u8], expected: &[u8]) -> Line {
+    let mut firsts = [77; 3];
+    let mut seconds = [77; 3];
+    let mut signals = [77; 3];
+    let r = read_plant(bytes, &mut firsts, &mut seconds, &mut signals);
+    let line = answered(r, expected);
+    let line = print::list(line, expected, b" firsts=", &firsts);
+    let line = print::list(line, expected, b" seconds=", &seconds);
+    let line = print::list(line, expected, b" signals=", &signals);
+    back(line, r, &firsts, &seconds, &signals, bytes, expected)
+}
+
+// Reading into lists of 1,024 entries.
+fn read_back(bytes: &[u8], expected: &[u8]) -> Line {
+    let mut firsts = [0; 1024];
+    let mut seconds = [0; 1024];
+    let mut signals = [0; 1024];
+    let r = read_plant(bytes, &mut firsts, &mut seconds, &mut signals);
+    back(
+        answered(r, expected),
+        r,
+        &firsts,
+        &seconds,
+        &signals,
+        bytes,
+        expected,
+    )
+}
+
+// A text that is written out.
+pub fn read(case: &[u8], expected: &[u8]) -> Line {
+    let mut bytes = [0; 512];
+    let k = spell(row::rest(case, 0, 5), &mut bytes);
+    read_in(row::head(&bytes, k), expected)
+}
+
+// A text that is written out, with newlines after it up to a length.
+pub fn long(list: &[usize; 64], case: &[u8], expected: &[u8]) -> Line {
+    let mut bytes = [b'\n'; 32769];
+    spell(row::rest(case, 0, 11), &mut bytes);
+    read_in(row::head(&bytes, row::entry(list, 0)), expected)
+}
+
+// A plant made by a rule, written and read back: reach, devices, lines, the signals of each line. Answers what reading does, and whether it is written back as it was.
+pub fn full_x(list: &[usize; 64], expected: &[u8]) -> Line {
+    let mut firsts = [0; 1024];
+    let mut seconds = [0; 1024];
+    let mut signals = [0; 1024];
+    let n = row::entry(list, 1);
+    let lines = row::entry(list, 2);
+    plants::fill(
+        n,
+        row::entry(list, 0),
+        row::entry(list, 3),
+        &mut firsts,
+        &mut seconds,
+        &mut signals,
+    );
+    let mut bytes = [0; 32768];
+    let w = write_plant(
+        n,
+        row::part(&firsts, lines),
+        row::part(&seconds, lines),
+        row::part(&signals, lines),
+        &mut bytes,
+    );
+    let line = read_back(row::head(&bytes, w.count), expected);
+    print::value(line, expected, b" count=", w.count)
+}
+
+// Writing into lent bytes, with the bytes afterwards.
+fn written(list: &[usize; 64], count: usize, expected: &[u8], bytes: &mut [u8]) -> Line {
+    let mut firsts = [0; 16];
+    let mut seconds = [0; 16];
+    let mut signals = [0; 16];
+    let g = row::plant(list, count, 1, &mut firsts, &mut seconds, &mut signals);
+    let w = write_plant(
+        g.n,
+        row::part(&firsts, g.lines),
+        row::part(&seconds, g.lines),
+        row::part(&signals, g.lines),
+        bytes,
+    );
+    let line = print::refusal(expected, w.number, w.place);
+    let line = print::value(line, expected, b" count=", w.count);
+    print::bytes(line, expected, b" text=", bytes)
+}
+
+// The room for the bytes, which all are * before, and a plant that is written out.
+pub fn write(list: &[usize; 64], count: usize, expected: &[u8]) -> Line {
+    let mut bytes = [b'*'; 128];
+    let room = row::at_most(row::entry(list, 0), 128);
+    written(list, count, expected, &mut bytes[..room])
+}
