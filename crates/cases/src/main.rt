@@ -13,6 +13,48 @@ use libc::STDIN_FILENO;
 use print::Line;
 use print::Tally;
 
+// The answer to a case on plant texts.
+fn text_answer(case: &[u8], list: &[usize; 64], count: usize, expected: &[u8]) -> Line {
+    if row::starts(case, b"read") {
+        return texts::read(case, expected);
+    }
+    if row::starts(case, b"long") {
+        return texts::long(list, case, expected);
+    }
+    if row::starts(case, b"full") {
+        return texts::full(list, expected);
+    }
+    if row::starts(case, b"write") {
+        return texts::write(list, count, expected);
+    }
+    print::unknown()
+}
+
+// The answer to a case on groups, or a later one.
+fn group_answer(case: &[u8], list: &[usize; 64], count: usize, expected: &[u8]) -> Line {
+    if row::starts(case, b"groups") {
+        return groups::plant(list, count, expected);
+    }
+    if row::starts(case, b"large groups") {
+        return groups::made(list, expected);
+    }
+    text_answer(case, list, count, expected)
+}
+
+// The answer to a case on communities, or a later one.
+fn community_answer(case: &[u8], list: &[usize; 64], count: usize, expected: &[u8]) -> Line {
+    if row::starts(case, b"community") {
+        return communities::plant(list, count, expected);
+    }
+    if row::starts(case, b"large community") {
+        return communities::made(list, expected);
+    }
+    if row::starts(case, b"owners") {
+        return communities::owned(list, count, expected);
+    }
+    group_answer(case, list, count, expected)
+}
+
 // The answer to a case, printed and held against the expected one.
 fn answer(case: &[u8], expected: &[u8]) -> Line {
     let r = row::numbers_of(case);
@@ -29,34 +71,7 @@ fn answer(case: &[u8], expected: &[u8]) -> Line {
     if row::starts(case, b"lists") {
         return checks::lists(&list, expected);
     }
-    if row::starts(case, b"community") {
-        return communities::plant(&list, r.count, expected);
-    }
-    if row::starts(case, b"large community") {
-        return communities::made(&list, expected);
-    }
-    if row::starts(case, b"owners") {
-        return communities::owned(&list, r.count, expected);
-    }
-    if row::starts(case, b"groups") {
-        return groups::plant(&list, r.count, expected);
-    }
-    if row::starts(case, b"large groups") {
-        return groups::made(&list, expected);
-    }
-    if row::starts(case, b"read") {
-        return texts::read(case, expected);
-    }
-    if row::starts(case, b"long") {
-        return texts::long(&list, case, expected);
-    }
-    if row::starts(case, b"full") {
-        return texts::full_x(&list, expected);
-    }
-    if row::starts(case, b"write") {
-        return texts::write(&list, r.count, expected);
-    }
-    print::unknown()
+    community_answer(case, &list, r.count, expected)
 }
 
 // One row: the case and its answer.

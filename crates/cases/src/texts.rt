@@ -108,7 +108,7 @@ pub fn long(list: &[usize; 64], case: &[u8], expected: &[u8]) -> Line {
 }
 
 // A plant made by a rule, written and read back: reach, devices, lines, the signals of each line. Answers what reading does, and whether it is written back as it was.
-pub fn full_x(list: &[usize; 64], expected: &[u8]) -> Line {
+pub fn full(list: &[usize; 64], expected: &[u8]) -> Line {
     let mut firsts = [0; 1024];
     let mut seconds = [0; 1024];
     let mut signals = [0; 1024];
