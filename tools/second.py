@@ -62,7 +62,7 @@ def written(n, lines):
 
 def main():
     rng = random.Random(int(sys.argv[1]) if len(sys.argv) > 1 else 2026)
-    for _ in range(int(sys.argv[2]) if len(sys.argv) > 2 else 100):
+    for _ in range(int(sys.argv[2]) if len(sys.argv) > 2 else 80):
         n, lines = plant(rng)
         p, q = rate(rng, n, lines)
         d = rng.randrange(n)

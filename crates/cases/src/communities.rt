@@ -65,7 +65,8 @@ pub fn made(list: &[usize; 64], expected: &[u8]) -> Line {
         row::entry(list, 0),
         &mut marks,
     );
-    answered(r, expected)
+    let line = answered(r, expected);
+    print::marks(line, expected, b" marks=", &marks)
 }
 
 // 1 for a device that is wanted.

@@ -24,6 +24,9 @@ fn text_answer(case: &[u8], list: &[usize; 64], count: usize, expected: &[u8]) -
     if row::starts(case, b"full") {
         return texts::full(list, expected);
     }
+    if row::starts(case, b"surplus") {
+        return texts::surplus(case, expected);
+    }
     if row::starts(case, b"write") {
         return texts::write(list, count, expected);
     }

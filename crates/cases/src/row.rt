@@ -70,7 +70,7 @@ fn digit(byte: u8) -> usize
     x - 48
 }
 
-// A number with one more digit; it stops growing past nine digits and more.
+// A number with one more digit; it takes no more than ten.
 fn longer(value: usize, d: usize) -> usize
     requires { ⌜ d ≤ 10 ⌝ }
 {
@@ -100,7 +100,7 @@ fn closed(r: Numbers, in_word: bool) -> Numbers {
     }
 }
 
-// One more byte. A digit in a word, as in K2, is no number.
+// One more byte. A digit in a word, as in K2, is no number; every byte from A on is taken for a letter.
 fn read(r: Numbers, byte: u8) -> Numbers {
     let d = digit(byte);
     if d == 10 {

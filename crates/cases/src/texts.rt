@@ -18,17 +18,20 @@ fn meant(byte: u8) -> u8 {
     byte
 }
 
-// The bytes that a row stands for, as many as there is room for, and how many they are.
-fn spell(case: &[u8], bytes: &mut [u8]) -> usize {
+// Byte i, where there is one.
+fn put(bytes: &mut [u8], i: usize, byte: u8) {
+    if i < bytes.len() {
+        bytes[i] = byte;
+    }
+}
+
+// Puts what a row stands for into bytes, from a place on.
+fn spell(case: &[u8], bytes: &mut [u8], from: usize) {
     let mut i = 0;
     while i < case.len() {
-        if bytes.len() <= i {
-            return i;
-        }
-        bytes[i] = meant(case[i]);
+        put(bytes, std::num::wrapping_add_usize(from, i), meant(case[i]));
         i += 1;
     }
-    i
 }
 
 // What reading answers.
@@ -95,15 +98,16 @@ fn read_back(bytes: &[u8], expected: &[u8]) -> Line {
 
 // A text that is written out.
 pub fn read(case: &[u8], expected: &[u8]) -> Line {
+    let text = row::rest(case, 0, 5);
     let mut bytes = [0; 512];
-    let k = spell(row::rest(case, 0, 5), &mut bytes);
-    read_in(row::head(&bytes, k), expected)
+    spell(text, &mut bytes, 0);
+    read_in(row::head(&bytes, text.len()), expected)
 }
 
 // A text that is written out, with newlines after it up to a length.
 pub fn long(list: &[usize; 64], case: &[u8], expected: &[u8]) -> Line {
     let mut bytes = [b'\n'; 32769];
-    spell(row::rest(case, 0, 11), &mut bytes);
+    spell(row::rest(case, 0, 11), &mut bytes, 0);
     read_in(row::head(&bytes, row::entry(list, 0)), expected)
 }
 
@@ -132,6 +136,31 @@ pub fn full(list: &[usize; 64], expected: &[u8]) -> Line {
     );
     let line = read_back(row::head(&bytes, w.count), expected);
     print::value(line, expected, b" count=", w.count)
+}
+
+// The text of 1,024 lines with one row more, and another stated number of lines of four digits.
+pub fn surplus(case: &[u8], expected: &[u8]) -> Line {
+    let mut firsts = [0; 1024];
+    let mut seconds = [0; 1024];
+    let mut signals = [0; 1024];
+    plants::fill(128, 9, 1, &mut firsts, &mut seconds, &mut signals);
+    let mut bytes = [0; 32768];
+    let w = write_plant(128, &firsts, &seconds, &signals, &mut bytes);
+    let stated = b"plant=1|devices=128|lines=";
+    spell(row::rest(case, 0, 8), &mut bytes, stated.len());
+    let more = b"line=113,121,1|";
+    let last = b"end=plant|";
+    let at = std::num::wrapping_sub_usize(w.count, last.len());
+    spell(more, &mut bytes, at);
+    spell(
+        last,
+        &mut bytes,
+        std::num::wrapping_add_usize(at, more.len()),
+    );
+    read_back(
+        row::head(&bytes, std::num::wrapping_add_usize(w.count, more.len())),
+        expected,
+    )
 }
 
 // Writing into lent bytes, with the bytes afterwards.

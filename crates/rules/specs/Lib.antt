@@ -1,4 +1,4 @@
--- Document 01's rules as definitions that antt computes. A reader has to believe these files, and no others.
+-- Document 01's rules as definitions that antt computes. A reader has to believe these files, and of the crates above what their contracts cite.
 --     Plant       a line, a plant, a plant from its three lists
 --     Cut         a set of devices, its out, its size, its cost at a rate
 --     Community   the community of a device, also inside a fence

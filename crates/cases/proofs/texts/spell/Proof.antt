@@ -8,19 +8,16 @@ use Rattle.cases.proofs.texts.spell.Statement.{statement}
 use Rattle.cases.proofs.texts.spell.Tie as tie
 
 abbrev Inv-loop : tie.InvT-loop
-Inv-loop case bytes₀ i₀ bytes i = length bytes ≡ length bytes₀
+Inv-loop case bytes₀ from i₀ bytes i = length bytes ≡ length bytes₀
 
 abbrev μ-loop : tie.MeasureT-loop
-μ-loop case bytes₀ i₀ bytes i = length case - i
+μ-loop case bytes₀ from i₀ bytes i = length case - i
 
 loop-holds : tie.Need-loop-holds Inv-loop μ-loop
 loop-holds c = search needs
 
-same-length : tie.Need-same-length Inv-loop μ-loop
-same-length c = search needs
-
-returns : tie.Need-returns Inv-loop μ-loop
-returns c = search needs
+wrapping-add-usize-requires : tie.Need-wrapping-add-usize-requires Inv-loop μ-loop
+wrapping-add-usize-requires c κs = search needs
 
 shared-slice-read-meant : tie.Need-shared-slice-read-meant Inv-loop μ-loop
 shared-slice-read-meant c = search needs
@@ -28,8 +25,8 @@ shared-slice-read-meant c = search needs
 meant-requires : tie.Need-meant-requires Inv-loop μ-loop
 meant-requires c κs = search needs
 
-slice-write-bytes : tie.Need-slice-write-bytes Inv-loop μ-loop
-slice-write-bytes c = search needs
+put-requires : tie.Need-put-requires Inv-loop μ-loop
+put-requires c κs = search needs
 
 add-i : tie.Need-add-i Inv-loop μ-loop
 add-i c = search needs
@@ -40,11 +37,11 @@ loop-less c = search needs
 loop-again : tie.Need-loop-again Inv-loop μ-loop
 loop-again c = search needs
 
-same-length-2 : tie.Need-same-length-2 Inv-loop μ-loop
-same-length-2 c = search needs
+same-length : tie.Need-same-length Inv-loop μ-loop
+same-length c = search needs
 
-returns-2 : tie.Need-returns-2 Inv-loop μ-loop
-returns-2 c = search needs
+returns : tie.Need-returns Inv-loop μ-loop
+returns c = search needs
 
 pub spell-spec : {M : Type 1} → statement M
 spell-spec =
@@ -53,13 +50,12 @@ spell-spec =
     Inv-loop
     μ-loop
     loop-holds
-    same-length
-    returns
+    wrapping-add-usize-requires
     shared-slice-read-meant
     meant-requires
-    slice-write-bytes
+    put-requires
     add-i
     loop-less
     loop-again
-    same-length-2
-    returns-2)
+    same-length
+    returns)
