@@ -1,5 +1,5 @@
 -- The cut search from its first numbers to its last: the lists that it fills, the way that it takes, and its loop.
---     Filled, filled-start, -step     a list whose first entries are filled, each by a rule
+--     Opened, opened-start, -step     a list whose first entries are opened, each by a rule
 --     LineOpen, DrainOpen, drain-..   the rules of a line's room and of a device's drain at the start
 --     fence-in, -out                  a device is inside the fence or outside, by its entry in the list
 --     laid-accepted                   the lists of an accepted plant are laid as the search needs them
@@ -27,24 +27,24 @@ use Rattle.cut.proofs.RateLaws.{InRange}
 use Rattle.cut.proofs.ReachLaws.{count-most}
 use Rattle.cut.proofs.RoomLaws.{rooms-start, rooms-sent-inside, rooms-sent-outside, rooms-limit, room-most, cost-most, nodes-below, rooms-marks}
 
--- the entries below k are filled by the rule P
-pub record Filled (P : ℕ → ℕ → Type 0) (size : ℕ) (list : List ℕ) (k : ℕ) : Type 0 where
+-- the entries below k are opened by the rule P
+pub record Opened (P : ℕ → ℕ → Type 0) (size : ℕ) (list : List ℕ) (k : ℕ) : Type 0 where
   pub kept : length list ≡ size
   pub each : (i : ℕ) → i < k → P i (getD list i 0)
 
-pub filled-start : (P : ℕ → ℕ → Type 0) (list : List ℕ) → Filled P (length list) list 0
-filled-start P list = record { kept = refl; each = λ i b. absurd (omega arith) }
+pub opened-start : (P : ℕ → ℕ → Type 0) (list : List ℕ) → Opened P (length list) list 0
+opened-start P list = record { kept = refl; each = λ i b. absurd (omega arith) }
 
-pub filled-step : {P : ℕ → ℕ → Type 0} {size : ℕ} {list : List ℕ} {k : ℕ} → Filled P size list k → k < size → (x : ℕ) → P k x
-    → Filled P size (set list k x) (k + 1)
-filled-step {P} {size} {list} {k} filled b x new = record {
-  kept = simp length-set (filled .kept);
+pub opened-step : {P : ℕ → ℕ → Type 0} {size : ℕ} {list : List ℕ} {k : ℕ} → Opened P size list k → k < size → (x : ℕ) → P k x
+    → Opened P size (set list k x) (k + 1)
+opened-step {P} {size} {list} {k} opened b x new = record {
+  kept = simp length-set (opened .kept);
   each = λ i c. at i c (ℕ-discrete i k);
 }
   where
     at : (i : ℕ) → i < k + 1 → Dec (i ≡ k) → P i (getD (set list k x) i 0)
-    at i c (yes e) = rw (e, getD-set-same list k x 0 (omega (arith, filled .kept))) new
-    at i c (no h) = rw (getD-set-other list k i x 0 h) (filled .each i (omega arith))
+    at i c (yes e) = rw (e, getD-set-same list k x 0 (omega (arith, opened .kept))) new
+    at i c (no h) = rw (getD-set-other list k i x 0 h) (opened .each i (omega arith))
 
 -- q times the signals of line l
 abbrev pub LineOpen : List ℕ → ℕ → ℕ → ℕ → Type 0

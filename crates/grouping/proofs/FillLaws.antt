@@ -10,7 +10,7 @@ use native.Mathlib.Numerals.{add-one}
 use native.Mathlib.Decide.{ℕ-discrete}
 use native.Mathlib.Omega.{arith}
 use lib.Dec.{eqb}
-use lib.ListN.{length, getD, set, drop, replicate, length-set, length-replicate, getD-replicate, length-append, length-drop}
+use lib.ListN.{length, getD, set, drop, replicate, length-set, length-replicate, getD-replicate}
 use lib.Seq.{getD-set-same, getD-set-other, set-at, drop-cons}
 use borrow.Author.Tests.{eqb-true, eq-eqb, ne-eqb}
 use borrow.Author.Count.{below-more}
@@ -20,11 +20,6 @@ use Rattle.rules.proofs.LabelLaws.{lowest-in, lowest-le, length-table}
 use Rattle.rules.proofs.DistinctLaws.{owns, table-snoc, distinct-owns}
 use Rattle.cut.specs.Calls.{over}
 use Rattle.grouping.specs.Level.{firstWith}
-
--- entries written over the front of a list
-pub length-over : (n : ℕ) (f : ℕ → ℕ) (old : List ℕ) → n ≤ length old → length (over (table n f) old) ≡ length old
-unfolding over
-length-over n f old h = rw (length-append, length-drop, length-table) (omega arith)
 
 -- no entry yet
 pub over-none : (f : ℕ → ℕ) (old : List ℕ) → old ≡ over (table 0 f) old

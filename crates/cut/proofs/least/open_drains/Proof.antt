@@ -4,12 +4,12 @@ use Prim.Native.Nat.{_-_, _≤_}
 use mathlib.Core.Logic.{⊎-elim}
 use native.Mathlib.Omega.{arith}
 use lib.ListN.{length}
-use Rattle.cut.proofs.LeastLaws.{Filled, filled-start, filled-step, DrainOpen, drain-in, drain-out}
+use Rattle.cut.proofs.LeastLaws.{Opened, opened-start, opened-step, DrainOpen, drain-in, drain-out}
 use Rattle.cut.proofs.least.open_drains.Statement.{statement}
 use Rattle.cut.proofs.least.open_drains.Tie as tie
 
 abbrev Inv-loop : tie.InvT-loop
-Inv-loop n p fence d drain₀ own v₀ drain v = (v ≤ n) × Filled (DrainOpen fence d p) (length drain₀) drain v
+Inv-loop n p fence d drain₀ own v₀ drain v = (v ≤ n) × Opened (DrainOpen fence d p) (length drain₀) drain v
 
 abbrev μ-loop : tie.MeasureT-loop
 μ-loop n p fence d drain₀ own v₀ drain v = n - v
@@ -21,7 +21,7 @@ shared-slice-read-own : tie.Need-shared-slice-read-own Inv-loop μ-loop
 shared-slice-read-own c = omega arith
 
 loop-holds : tie.Need-loop-holds Inv-loop μ-loop
-loop-holds c = (omega arith, filled-start _ _)
+loop-holds c = (omega arith, opened-start _ _)
 
 mul-if1 : tie.Need-mul-if1 Inv-loop μ-loop
 mul-if1 c = omega arith
@@ -48,7 +48,7 @@ loop-less : tie.Need-loop-less Inv-loop μ-loop
 loop-less c = omega arith
 
 loop-again : tie.Need-loop-again Inv-loop μ-loop
-loop-again c = (omega arith, ⊎-elim (λ w. rw (w .1) (filled-step (c .before .before .before .loop .inv .1) (omega arith) _ (drain-in _ _ _ _ (w .0 .taken)))) (λ w. rw (w .1) (filled-step (c .before .before .before .loop .inv .1) (omega arith) _ (drain-out _ _ _ _ _ (omega arith) (w .0 .left)))) (c .if1 .came))
+loop-again c = (omega arith, ⊎-elim (λ w. rw (w .1) (opened-step (c .before .before .before .loop .inv .1) (omega arith) _ (drain-in _ _ _ _ (w .0 .taken)))) (λ w. rw (w .1) (opened-step (c .before .before .before .loop .inv .1) (omega arith) _ (drain-out _ _ _ _ _ (omega arith) (w .0 .left)))) (c .if1 .came))
 
 same-length : tie.Need-same-length Inv-loop μ-loop
 same-length c = c .before .loop .inv .1 .kept

@@ -5,18 +5,18 @@ use native.Mathlib.Nat.{mul-le-mul}
 use mathlib.Core.Path.{refl}
 use native.Mathlib.Omega.{arith}
 use lib.ListN.{length}
-use Rattle.cut.proofs.LeastLaws.{Filled, filled-start, filled-step, LineOpen}
+use Rattle.cut.proofs.LeastLaws.{Opened, opened-start, opened-step, LineOpen}
 use Rattle.cut.proofs.least.open_lines.Statement.{statement}
 use Rattle.cut.proofs.least.open_lines.Tie as tie
 
 abbrev Inv-loop : tie.InvT-loop
-Inv-loop signals q forth₀ back₀ l₀ forth back l = (l ≤ length signals) × Filled (LineOpen signals q) (length forth₀) forth l × Filled (LineOpen signals q) (length back₀) back l
+Inv-loop signals q forth₀ back₀ l₀ forth back l = (l ≤ length signals) × Opened (LineOpen signals q) (length forth₀) forth l × Opened (LineOpen signals q) (length back₀) back l
 
 abbrev μ-loop : tie.MeasureT-loop
 μ-loop signals q forth₀ back₀ l₀ forth back l = length signals - l
 
 loop-holds : tie.Need-loop-holds Inv-loop μ-loop
-loop-holds c = (omega arith, filled-start _ _, filled-start _ _)
+loop-holds c = (omega arith, opened-start _ _, opened-start _ _)
 
 mul-room : tie.Need-mul-room Inv-loop μ-loop
 mul-room c = omega arith
@@ -46,7 +46,7 @@ loop-less : tie.Need-loop-less Inv-loop μ-loop
 loop-less c = omega arith
 
 loop-again : tie.Need-loop-again Inv-loop μ-loop
-loop-again c = (omega arith, filled-step (c .before .before .loop .inv .1) (omega arith) _ refl, filled-step (c .before .before .loop .inv .2) (omega arith) _ refl)
+loop-again c = (omega arith, opened-step (c .before .before .loop .inv .1) (omega arith) _ refl, opened-step (c .before .before .loop .inv .2) (omega arith) _ refl)
 
 same-length : tie.Need-same-length Inv-loop μ-loop
 same-length c = c .before .loop .inv .1 .kept

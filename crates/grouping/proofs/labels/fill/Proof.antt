@@ -9,7 +9,8 @@ use lib.ListN.{length, getD}
 use Rattle.rules.specs.Groups.{table}
 use Rattle.cut.specs.Calls.{over}
 use Rattle.grouping.specs.Level.{firstWith}
-use Rattle.grouping.proofs.FillLaws.{Firsts, firsts-start, firsts-new, firsts-old, over-more, over-none, length-over, firsts-all, owns-le}
+use Rattle.cut.proofs.FillLaws.{over-size}
+use Rattle.grouping.proofs.FillLaws.{Firsts, firsts-start, firsts-new, firsts-old, over-more, over-none, firsts-all, owns-le}
 use Rattle.grouping.proofs.labels.fill.Statement.{statement}
 use Rattle.grouping.proofs.labels.fill.Tie as tie
 use Rattle.grouping.proofs.labels.fill.Reads as reads
@@ -61,7 +62,7 @@ mul-labels-2 c = omega arith
 
 -- the lent list keeps its length
 room : (c : tie.In-loop Inv-loop μ-loop) → length (c .before .loop .labels) ≡ length (c .before .before .args .labels .now)
-room c = ap length (c .before .loop .inv .1) ∙ length-over _ _ _ (omega arith)
+room c = ap length (c .before .loop .inv .1) ∙ over-size _ _ _ (omega arith)
 
 slice-write-labels : tie.Need-slice-write-labels Inv-loop μ-loop
 slice-write-labels c = omega (arith, room (c .before))
@@ -93,7 +94,7 @@ loop-again c = (omega arith, rw (at .loop .inv .1) (over-more _ _ _ _ (omega ari
         (c .if1 .came)
 
 same-length : tie.Need-same-length Inv-loop μ-loop
-same-length c = ap length (c .before .loop .inv .1) ∙ length-over _ _ _ (omega arith)
+same-length c = ap length (c .before .loop .inv .1) ∙ over-size _ _ _ (omega arith)
 
 returns : tie.Need-returns Inv-loop μ-loop
 returns c = firsts-all _ _ _ (omega arith) (c .before .loop .inv .1) (c .before .loop .inv .2)
