@@ -23,7 +23,7 @@ use Rattle.rules.specs.Refusals.{Accepted}
 use Rattle.rules.proofs.RefusalLaws.{accepted-sound}
 use Rattle.cut.specs.Calls.{fenceOf}
 use Rattle.cut.specs.Search.{Laid, Way, Found, Scan, Led, Sent, Rooms}
-use Rattle.cut.proofs.RateLaws.{InRange}
+use Rattle.rules.proofs.RangeLaws.{InRange}
 use Rattle.cut.proofs.ReachLaws.{count-most}
 use Rattle.cut.proofs.RoomLaws.{rooms-start, rooms-sent-inside, rooms-sent-outside, rooms-limit, room-most, cost-most, nodes-below, rooms-marks}
 

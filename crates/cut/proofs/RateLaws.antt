@@ -1,4 +1,4 @@
--- Rates: the range test, the common divisor that a reduction finds, that the result is in lowest terms, and that a fraction has only one form in lowest terms (so a reduction's contract determines its answer).
+-- Rates: the common divisor that a reduction finds, that the result is in lowest terms, and that a reduction's contract determines its answer.
 -- Assumes nothing.
 use Prim.Native.Nat.{ℕ, zero, suc, _+_, _*_, _/_, _%_, _∣_, _≤_, _<_}
 use mathlib.Core.Path.{_≡_, refl, sym, ap, subst, _∙_}
@@ -8,34 +8,12 @@ use native.Mathlib.Nat.{le-suc, mul-le-mul, not-suc-le-zero, zero-lt-suc, mul-as
 use native.Mathlib.Omega.{arith}
 use borrow.Author.Tests.{le-leb, lt-leb, leb-true}
 use lib.Dec.{leb}
-use Rattle.rules.proofs.SetLaws.{and-left, and-right}
+use Rattle.rules.proofs.RangeLaws.{range-in}
+use Rattle.rules.proofs.LowestLaws.{lowest-first, lowest-second}
 use Rattle.rules.specs.Rates.{rateOk, Same, Lowest}
 use Rattle.cut.specs.declared.rate.Reduced.{Reduced}
 use Rattle.cut.specs.RateCalls.{Reduction}
 use Rattle.cut.specs.RateLoop.{Divisor}
-
--- the range test, bound by bound
-pub record InRange (p q : ℕ) : Type 0 where
-  pub p-least : 1 ≤ p
-  pub p-most : p ≤ 100000000
-  pub q-least : 1 ≤ q
-  pub q-most : q ≤ 1000
-
-pub in-range : {p q : ℕ} → InRange p q → rateOk p q ≡ true
-unfolding rateOk
-in-range r = simp (le-leb _ _ (r .p-least), le-leb _ _ (r .p-most), le-leb _ _ (r .q-least), le-leb _ _ (r .q-most))
-
-pub range-in : (p q : ℕ) → rateOk p q ≡ true → InRange p q
-unfolding rateOk
-range-in p q e =
-    let ps = and-left (leb 1 p && leb p 100000000) (leb 1 q && leb q 1000) e in
-    let qs = and-right (leb 1 p && leb p 100000000) (leb 1 q && leb q 1000) e in
-    record {
-      p-least = leb-true _ _ (and-left (leb 1 p) (leb p 100000000) ps);
-      p-most = leb-true _ _ (and-right (leb 1 p) (leb p 100000000) ps);
-      q-least = leb-true _ _ (and-left (leb 1 q) (leb q 1000) qs);
-      q-most = leb-true _ _ (and-right (leb 1 q) (leb q 1000) qs);
-    }
 
 -- a and b have the common divisors of p and q
 pub record Alike (p q a b : ℕ) : Type 0 where
@@ -82,66 +60,6 @@ module _ {p q c : ℕ} (h : Divisor p q c) where
   reduced-lowest k x y =
       eq-one-of-dvd-one
       (dvd-of-mul-dvd-mul-right k (h .some) (subst (λ (n : ℕ). k * c ∣ n) (sym (one-mul c)) (h .most (k * c) (times k p whole-p x) (times k q whole-q y))))
-
--- a number that has nothing in common with r and divides r times t divides t
-Divides : ℕ → Type 0
-Divides fuel = (r s t : ℕ) → r ≤ fuel → Lowest r s → s ∣ r * t → s ∣ t
-
-divides-zero : (s t : ℕ) → Lowest 0 s → s ∣ t
-unfolding Lowest
-divides-zero s t low = subst (λ (n : ℕ). n ∣ t) (sym (low s (dvd-zero s) (dvd-refl s))) (one-dvd t)
-
-divides-step : (fuel : ℕ) → Divides fuel → Divides (suc fuel)
-unfolding Divides Lowest
-divides-step fuel ih zero s t h low d = divides-zero s t low
-divides-step fuel ih (suc r) s t h low d =
-    let R = suc r in
-    let m = R * t / s in
-    let em : s * m ≡ R * t = mul-div-cancel' s d in
-    let rest : s % R < R = mod-lt s (zero-lt-suc r) in
-    let split : R * (s / R * m) + s % R * m ≡ R * t =
-    sym (ap (λ (n : ℕ). n + s % R * m) (mul-assoc R (s / R) m)) ∙ sym (add-mul (R * (s / R)) (s % R) m) ∙ ap (λ (n : ℕ). n * m) (div-add-mod s R) ∙ em in
-    let rm : R ∣ s % R * m = dvd-add-iff-right R (dvd-mul-right R (s / R * m)) .1 (subst (λ (n : ℕ). R ∣ n) (sym split) (dvd-mul-right R t)) in
-    let low′ : (k : ℕ) → k ∣ s % R → k ∣ R → k ≡ 1 = λ k x y. low k y (dvd-mod-iff k y .0 x) in
-    let dm : R ∣ m = ih (s % R) R m (omega arith) low′ rm in
-    let j = m / R in
-    let ej : R * j ≡ m = mul-div-cancel' R dm in
-    let et : s * j ≡ t =
-    eq-of-mul-eq-mul-left R (zero-lt-suc r) (s * j) t (mul-left-comm R s j ∙ ap (λ (n : ℕ). s * n) ej ∙ em) in
-    subst (λ (n : ℕ). s ∣ n) et (dvd-mul-right s j)
-
-coprime-divides : (fuel : ℕ) → Divides fuel
-unfolding Divides Lowest
-coprime-divides zero = none
-  where
-    none : (r s t : ℕ) → r ≤ 0 → Lowest r s → s ∣ r * t → s ∣ t
-    none zero s t h low d = divides-zero s t low
-    none (suc r) s t h low d = absurd (not-suc-le-zero h)
-coprime-divides (suc fuel) = divides-step fuel (coprime-divides fuel)
-
--- a fraction has one form in lowest terms
-module _ (p q r s r′ s′ : ℕ) (some : 1 ≤ q) (e : Same p q r s) (e′ : Same p q r′ s′) (low : Lowest r s) (low′ : Lowest r′ s′) where
-  cross : r * s′ ≡ r′ * s
-  cross =
-      eq-of-mul-eq-mul-left q some (r * s′) (r′ * s)
-      (mul-left-comm q r s′ ∙ sym (mul-assoc r q s′) ∙ ap (λ (n : ℕ). n * s′) (sym e) ∙ mul-right-comm p s s′ ∙ ap (λ (n : ℕ). n * s) e′ ∙ mul-assoc r′ q s ∙ mul-left-comm r′ q s)
-
-  pub lowest-second : s ≡ s′
-  unfolding Divides
-  lowest-second =
-      dvd-antisymm
-      (coprime-divides (suc r) r s s′ (le-suc r) low (subst (λ (n : ℕ). s ∣ n) (sym cross) (dvd-mul-left s r′)))
-      (coprime-divides (suc r′) r′ s′ s (le-suc r′) low′ (subst (λ (n : ℕ). s′ ∣ n) cross (dvd-mul-left s′ r)))
-
-  pub lowest-first : r ≡ r′
-  lowest-first = eq-of-mul-eq-mul-right q some r r′ (sym e ∙ ap (λ (n : ℕ). p * n) lowest-second ∙ e′)
-
-pub off-range : {p q : ℕ} → (InRange p q → ⊥) → rateOk p q ≡ false
-off-range {p} {q} h = go (rateOk p q) refl
-  where
-    go : (b : Bool) → rateOk p q ≡ b → b ≡ false
-    go true e = absurd (h (range-in p q e))
-    go false e = refl
 
 -- a cross product of two accepted rates is small
 pub cross-most : (p q r s : ℕ) → rateOk p q ≡ true → rateOk r s ≡ true → p * s ≤ 100000000000

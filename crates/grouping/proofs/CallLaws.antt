@@ -13,7 +13,7 @@ use Rattle.rules.specs.Groups.{table, groups, distinct}
 use Rattle.rules.specs.Refusals.{done}
 use Rattle.rules.proofs.RefusalLaws.{accepted-sound}
 use Rattle.cut.specs.Calls.{over, wantedIn, ownersFault, ownersOf, ownersAfter}
-use Rattle.cut.proofs.RateLaws.{InRange, range-in}
+use Rattle.rules.proofs.RangeLaws.{InRange, range-in}
 use Rattle.grouping.specs.declared.level.Level.{Level}
 use Rattle.grouping.specs.Calls.{groupingFault, groupingAnswer, labelsAfter}
 use Rattle.grouping.specs.Level.{firstWith, LevelAt, Enough, everybody, heads, Between}

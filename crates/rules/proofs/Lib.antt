@@ -8,6 +8,8 @@
 --     Communities   the only one; nested or apart
 --     Bounds        the two bounds of a group
 --     Rates         communities at two rates
+--     RangeLaws     the range test of a rate, bound by bound
+--     LowestLaws    a fraction has one form in lowest terms
 --     Family        what the groups need of the communities
 --     GroupLaws     the group of a device
 --     LabelLaws     the lowest device of a set, the label of a device, a list by its entries
@@ -23,6 +25,8 @@ pub mod Best
 pub mod Communities
 pub mod Bounds
 pub mod Rates
+pub mod RangeLaws
+pub mod LowestLaws
 pub mod Family
 pub mod GroupLaws
 pub mod LabelLaws

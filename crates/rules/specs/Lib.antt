@@ -6,6 +6,8 @@
 --     Sweep       the owners of devices, by going through the devices once
 --     Rates       accepted rates, order of fractions, lowest terms
 --     Refusals    each cause of a refusal, and the first in the fixed order
+--     Hierarchy   levels, low rates and joining rates
+--     Stretch     what the search between two levels finds; no public contract cites it
 --     Figures     K1 to K12 as a list
 pub mod Plant
 pub mod Cut
@@ -14,4 +16,6 @@ pub mod Groups
 pub mod Sweep
 pub mod Rates
 pub mod Refusals
+pub mod Hierarchy
+pub mod Stretch
 pub mod Figures

@@ -10,7 +10,7 @@ use lib.ListN.{length}
 use Rattle.rules.specs.Plant.{plantOf}
 use Rattle.rules.specs.Cut.{cost}
 use Rattle.cut.specs.Search.{Laid, Lasts, Priors, Rooms}
-use Rattle.cut.proofs.RateLaws.{range-in}
+use Rattle.rules.proofs.RangeLaws.{range-in}
 use Rattle.cut.proofs.RoomLaws.{rooms-limit}
 use Rattle.cut.proofs.LeastLaws.{laid-accepted, led-found, Sending, rooms-opened, rooms-small, sent-small, scan-marks, led-below}
 use Rattle.cut.proofs.least.least.Statement.{statement}

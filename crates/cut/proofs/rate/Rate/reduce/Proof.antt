@@ -4,7 +4,8 @@ use mathlib.Core.Path.{refl, sym, _∙_}
 use mathlib.Core.Bool.{true≢false}
 use borrow.Author.Needs.{needs}
 use borrow.Author.Tests.{not-true, not-false}
-use Rattle.cut.proofs.RateLaws.{range-in, reduced-same, reduced-lowest}
+use Rattle.rules.proofs.RangeLaws.{range-in}
+use Rattle.cut.proofs.RateLaws.{reduced-same, reduced-lowest}
 use Rattle.cut.proofs.rate.Rate.reduce.Statement.{statement}
 use Rattle.cut.proofs.rate.Rate.reduce.Tie as tie
 

@@ -1,0 +1,38 @@
+-- The range test of a rate, bound by bound. Assumes nothing.
+use Prim.Native.Nat.{ℕ, _≤_}
+use mathlib.Core.Path.{_≡_, refl}
+use mathlib.Core.Bool.{Bool, true, false, _&&_}
+use borrow.Author.Tests.{le-leb, leb-true}
+use lib.Dec.{leb}
+use Rattle.rules.specs.Rates.{rateOk}
+use Rattle.rules.proofs.SetLaws.{and-left, and-right}
+
+-- p and q in range
+pub record InRange (p q : ℕ) : Type 0 where
+  pub p-least : 1 ≤ p
+  pub p-most : p ≤ 100000000
+  pub q-least : 1 ≤ q
+  pub q-most : q ≤ 1000
+
+pub in-range : {p q : ℕ} → InRange p q → rateOk p q ≡ true
+unfolding rateOk
+in-range r = simp (le-leb _ _ (r .p-least), le-leb _ _ (r .p-most), le-leb _ _ (r .q-least), le-leb _ _ (r .q-most))
+
+pub range-in : (p q : ℕ) → rateOk p q ≡ true → InRange p q
+unfolding rateOk
+range-in p q e =
+    let ps = and-left (leb 1 p && leb p 100000000) (leb 1 q && leb q 1000) e in
+    let qs = and-right (leb 1 p && leb p 100000000) (leb 1 q && leb q 1000) e in
+    record {
+      p-least = leb-true _ _ (and-left (leb 1 p) (leb p 100000000) ps);
+      p-most = leb-true _ _ (and-right (leb 1 p) (leb p 100000000) ps);
+      q-least = leb-true _ _ (and-left (leb 1 q) (leb q 1000) qs);
+      q-most = leb-true _ _ (and-right (leb 1 q) (leb q 1000) qs);
+    }
+
+pub off-range : {p q : ℕ} → (InRange p q → ⊥) → rateOk p q ≡ false
+off-range {p} {q} h = go (rateOk p q) refl
+  where
+    go : (b : Bool) → rateOk p q ≡ b → b ≡ false
+    go true e = absurd (h (range-in p q e))
+    go false e = refl
