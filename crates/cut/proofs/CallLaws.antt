@@ -17,15 +17,16 @@ use Rattle.rules.specs.Community.{community, communityIn}
 use Rattle.rules.specs.Groups.{table}
 use Rattle.rules.specs.Sweep.{sweep}
 use Rattle.rules.specs.Rates.{rateOk}
-use Rattle.rules.specs.Refusals.{done, cause, orElse, firstOf, rateFault, deviceFault, roomFault, plantFault, Accepted}
-use Rattle.rules.proofs.RefusalLaws.{call-is, call-plant, call-rest, accepted-sound, done-accepted, plant-clean}
+use Rattle.rules.specs.Refusals.{done, cause, orElse, firstOf, rateFault, deviceFault, roomFault, afterPlant, about, nothing, plantSays, plantFault, Accepted}
+use Rattle.rules.proofs.RefusalLaws.{done-next, call-is, call-plant, call-rest, accepted-sound, done-accepted, plant-clean}
 use Rattle.rules.proofs.Communities.{fence-off}
 use Rattle.rules.proofs.Sweep.{sweep-takes, sweep-passes, sweep-keeps}
 use Rattle.cut.specs.declared.community.Answer.{Answer}
 use Rattle.cut.specs.Search.{sum}
-use Rattle.cut.specs.Calls.{over, marksOf, communityFault, communityAnswer, communityMarks, fenceOf, wantedIn, ownersFault, ownersOf, ownersAfter}
+use Rattle.rules.specs.Lists.{over}
+use Rattle.cut.specs.Calls.{marksOf, communityFault, communityAnswer, communityMarks, fenceOf, wantedIn, ownersFault, ownersOf, ownersAfter}
 use Rattle.cut.proofs.CheckLaws.{at}
-use Rattle.cut.proofs.FillLaws.{over-agree, over-front, over-size, over-over}
+use Rattle.rules.proofs.FillLaws.{over-agree, over-front, over-size, over-over}
 use Rattle.cut.proofs.RoomLaws.{marks-size, marks-out}
 
 -- a plant with number 0 is accepted
@@ -35,9 +36,9 @@ plant-accepted n xs ys zs r e z = done-accepted n xs ys zs (plant-clean n xs ys 
 -- the community call's first fault
 module _ (n : ℕ) (xs ys zs : List ℕ) (p q d room : ℕ) where
   community-fault-is :
-      communityFault n xs ys zs p q d room ≡ orElse (plantFault n xs ys zs) (firstOf (rateFault p q ∷ deviceFault n d ∷ done ∷ done ∷ roomFault n room ∷ done ∷ []))
-  unfolding communityFault
-  community-fault-is = call-is n xs ys zs (rateFault p q) (deviceFault n d) done done (roomFault n room) done
+      communityFault n xs ys zs p q d room ≡ orElse (plantFault n xs ys zs) (firstOf (rateFault p q ∷ deviceFault n d ∷ roomFault n room ∷ []))
+  unfolding communityFault afterPlant about plantSays nothing firstOf
+  community-fault-is = call-is n xs ys zs _ refl refl refl refl ∙ simp done-next
 
   pub community-plant : (plantFault n xs ys zs .number ≡ 0 → ⊥) → communityFault n xs ys zs p q d room ≡ plantFault n xs ys zs
   community-plant h = community-fault-is ∙ call-plant n xs ys zs _ h
@@ -88,9 +89,9 @@ module _ (n : ℕ) (xs ys zs : List ℕ) (p q d : ℕ) (marks : List ℕ) where
 module _ (n : ℕ) (xs ys zs : List ℕ) (p q a b c : ℕ) where
   owners-fault-is :
       ownersFault n xs ys zs p q a b c
-      ≡ orElse (plantFault n xs ys zs) (firstOf (rateFault p q ∷ done ∷ done ∷ done ∷ firstOf (roomFault n a ∷ roomFault n b ∷ roomFault n c ∷ []) ∷ done ∷ []))
-  unfolding ownersFault
-  owners-fault-is = call-is n xs ys zs (rateFault p q) done done done (firstOf (roomFault n a ∷ roomFault n b ∷ roomFault n c ∷ [])) done
+      ≡ orElse (plantFault n xs ys zs) (firstOf (rateFault p q ∷ firstOf (roomFault n a ∷ roomFault n b ∷ roomFault n c ∷ []) ∷ []))
+  unfolding ownersFault afterPlant about plantSays nothing firstOf
+  owners-fault-is = call-is n xs ys zs _ refl refl refl refl ∙ simp done-next
 
   pub owners-plant : (plantFault n xs ys zs .number ≡ 0 → ⊥) → ownersFault n xs ys zs p q a b c ≡ plantFault n xs ys zs
   owners-plant h = owners-fault-is ∙ call-plant n xs ys zs _ h

@@ -12,7 +12,7 @@ use lib.Dec.{leb, ltb, eqb, eqb·suc-zero}
 use lib.ListN.{length, getD}
 use Rattle.rules.specs.declared.Refusal.{Refusal}
 use Rattle.rules.proofs.RefusalLaws.{plant-is}
-use Rattle.rules.specs.Refusals.{done, cause, orElse, firstOf, devicesFault, listsFault, rises, lineFault, linesFrom, linesFault, Causes, inOrder, plantFault}
+use Rattle.rules.specs.Refusals.{done, cause, orElse, firstOf, devicesFault, listsFault, rises, lineFault, linesFrom, linesFault, plantFault}
 
 -- line i is above the line before it, as the code compares them
 pub rises-at : (xs ys : List ℕ) (i : ℕ) → (i ≡ 0 → ⊥)
@@ -90,28 +90,28 @@ module _ (n : ℕ) (xs ys zs : List ℕ) where
 -- the answers before the lines are looked at
 module _ (n : ℕ) (xs ys zs : List ℕ) where
   pub plant-none : n ≡ 0 → plantFault n xs ys zs ≡ at 1 0
-  unfolding plantFault inOrder devicesFault firstOf orElse cause done
-  plant-none e = simp (eq-eqb _ _ e)
+  unfolding devicesFault firstOf orElse cause done
+  plant-none e = plant-is n xs ys zs ∙ simp (eq-eqb _ _ e)
 
   module _ (some : n ≡ 0 → ⊥) where
     pub plant-many : 128 < n → plantFault n xs ys zs ≡ at 2 0
-    unfolding plantFault inOrder devicesFault firstOf orElse cause done
-    plant-many h = simp (ne-eqb _ _ some, lt-ltb _ _ h)
+    unfolding devicesFault firstOf orElse cause done
+    plant-many h = plant-is n xs ys zs ∙ simp (ne-eqb _ _ some, lt-ltb _ _ h)
 
     module _ (few : n ≤ 128) where
       pub plant-uneven : (length xs ≡ length ys → ⊥) → plantFault n xs ys zs ≡ at 3 0
-      unfolding plantFault inOrder devicesFault listsFault firstOf orElse cause done
-      plant-uneven h = simp (ne-eqb _ _ some, le-ltb _ _ few, ne-eqb _ _ h)
+      unfolding devicesFault listsFault firstOf orElse cause done
+      plant-uneven h = plant-is n xs ys zs ∙ simp (ne-eqb _ _ some, le-ltb _ _ few, ne-eqb _ _ h)
 
       module _ (even : length xs ≡ length ys) where
         pub plant-uneven′ : (length xs ≡ length zs → ⊥) → plantFault n xs ys zs ≡ at 3 0
-        unfolding plantFault inOrder devicesFault listsFault firstOf orElse cause done
-        plant-uneven′ h = simp (ne-eqb _ _ some, le-ltb _ _ few, eq-eqb _ _ even, ne-eqb (length ys) (length zs) (λ e. h (even ∙ e)))
+        unfolding devicesFault listsFault firstOf orElse cause done
+        plant-uneven′ h = plant-is n xs ys zs ∙ simp (ne-eqb _ _ some, le-ltb _ _ few, eq-eqb _ _ even, ne-eqb (length ys) (length zs) (λ e. h (even ∙ e)))
 
         module _ (even′ : length xs ≡ length zs) where
           pub plant-long : 1024 < length xs → plantFault n xs ys zs ≡ at 4 0
-          unfolding plantFault inOrder devicesFault listsFault firstOf orElse cause done
-          plant-long h = simp (ne-eqb _ _ some, le-ltb _ _ few, eq-eqb _ _ even, eq-eqb (length ys) (length zs) (sym even ∙ even′), lt-ltb _ _ h)
+          unfolding devicesFault listsFault firstOf orElse cause done
+          plant-long h = plant-is n xs ys zs ∙ simp (ne-eqb _ _ some, le-ltb _ _ few, eq-eqb _ _ even, eq-eqb (length ys) (length zs) (sym even ∙ even′), lt-ltb _ _ h)
 
           pub plant-lines : length xs ≤ 1024 → plantFault n xs ys zs ≡ linesFault n xs ys zs
           unfolding devicesFault listsFault firstOf orElse cause done

@@ -6,7 +6,6 @@
 --     IndexLaws   the index of each device's lines, line by line
 --     ReachLaws   the tree that a search has reached, device by device
 --     PathLaws    the way back from a place of the queue: how much can go, and what sending it changes
---     FillLaws    a loop that fills the front of a lent list
 --     LeastLaws   the loops of the least set
 --     SumLoop     a loop that adds up
 --     Determined  two results that a public contract allows are equal
@@ -19,7 +18,6 @@ pub mod EndLaws
 pub mod IndexLaws
 pub mod ReachLaws
 pub mod PathLaws
-pub mod FillLaws
 pub mod RoomLaws
 pub mod LeastLaws
 pub mod SumLoop

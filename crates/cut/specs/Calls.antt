@@ -2,21 +2,18 @@
 -- Assumes nothing.
 use Prim.Native.Nat.{ℕ}
 use mathlib.Core.Bool.{Bool, not, cond}
-use mathlib.Core.List.{List, [], _∷_, _++_}
-use lib.Dec.{ltb, eqb}
-use lib.ListN.{length, getD, drop}
+use mathlib.Core.List.{List, [], _∷_}
+use lib.Dec.{eqb}
+use lib.ListN.{length, getD}
 use Rattle.rules.specs.declared.Refusal.{Refusal}
 use Rattle.rules.specs.Plant.{Plant, plantOf}
 use Rattle.rules.specs.Cut.{Devices, out, size}
 use Rattle.rules.specs.Community.{community, communityIn}
 use Rattle.rules.specs.Groups.{table}
 use Rattle.rules.specs.Sweep.{sweep}
-use Rattle.rules.specs.Refusals.{done, devicesFault, listsFault, linesFault, rateFault, deviceFault, roomFault, firstOf, inOrder}
+use Rattle.rules.specs.Refusals.{rateFault, deviceFault, roomFault, firstOf, ofRate, ofDevice, ofRoom, inOrder, about, plantSays}
+use Rattle.rules.specs.Lists.{after}
 use Rattle.cut.specs.declared.community.Answer.{Answer}
-
--- "Longer lists are taken, and entries past those filled stay untouched.": the entries of new, and then what stood past them
-unfoldable pub over : List ℕ → List ℕ → List ℕ
-over new old = new ++ drop (length new) old
 
 -- "The community call fills 1 or 0 per device"
 unfoldable pub marksOf : ℕ → Devices → List ℕ
@@ -25,19 +22,7 @@ marksOf n S = table n (λ v. cond (S v) 1 0)
 -- the community call: 1 to 8, then 9, 10, and 12 for marks shorter than n
 unfoldable pub communityFault : ℕ → List ℕ → List ℕ → List ℕ → ℕ → ℕ → ℕ → ℕ → Refusal
 communityFault n xs ys zs p q d room =
-    inOrder
-    (record {
-      text = done;
-      devices = devicesFault n;
-      lists = listsFault (length xs) (length ys) (length zs);
-      lines = linesFault n xs ys zs;
-      rate = rateFault p q;
-      device = deviceFault n d;
-      self = done;
-      level = done;
-      room = roomFault n room;
-      never = done;
-    })
+    inOrder (about ofRate (rateFault p q) (about ofDevice (deviceFault n d) (about ofRoom (roomFault n room) (plantSays n xs ys zs))))
 
 -- "answers the size and out"; "every further answer is then absent or 0"
 unfoldable pub communityAnswer : ℕ → List ℕ → List ℕ → List ℕ → ℕ → ℕ → ℕ → List ℕ → Answer
@@ -52,9 +37,7 @@ communityAnswer n xs ys zs p q d marks =
 -- the lent marks afterwards; "Lent lists are untouched after any other number"
 unfoldable pub communityMarks : ℕ → List ℕ → List ℕ → List ℕ → ℕ → ℕ → ℕ → List ℕ → List ℕ
 communityMarks n xs ys zs p q d marks =
-    cond (eqb (communityFault n xs ys zs p q d (length marks) .number) 0)
-    (over (marksOf n (community (plantOf n xs ys zs) p q d)) marks)
-    marks
+    after (communityFault n xs ys zs p q d (length marks)) (marksOf n (community (plantOf n xs ys zs) p q d)) marks
 
 -- the fence of device d: the devices with its number in the list
 unfoldable pub fenceOf : List ℕ → ℕ → Devices
@@ -67,19 +50,7 @@ wantedIn wanted d = not (eqb (getD wanted d 0) 0)
 -- the owners call, over many devices of one plant and rate: 1 to 8, then 9, and 12 for a list shorter than n
 unfoldable pub ownersFault : ℕ → List ℕ → List ℕ → List ℕ → ℕ → ℕ → ℕ → ℕ → ℕ → Refusal
 ownersFault n xs ys zs p q fences wanteds room =
-    inOrder
-    (record {
-      text = done;
-      devices = devicesFault n;
-      lists = listsFault (length xs) (length ys) (length zs);
-      lines = linesFault n xs ys zs;
-      rate = rateFault p q;
-      device = done;
-      self = done;
-      level = done;
-      room = firstOf (roomFault n fences ∷ roomFault n wanteds ∷ roomFault n room ∷ []);
-      never = done;
-    })
+    inOrder (about ofRate (rateFault p q) (about ofRoom (firstOf (roomFault n fences ∷ roomFault n wanteds ∷ roomFault n room ∷ [])) (plantSays n xs ys zs)))
 
 -- the owner of each device: n is nobody
 unfoldable pub ownersOf : Plant → ℕ → ℕ → List ℕ → List ℕ → List ℕ
@@ -89,6 +60,4 @@ ownersOf g p q fence wanted =
 -- the lent owners afterwards
 unfoldable pub ownersAfter : ℕ → List ℕ → List ℕ → List ℕ → ℕ → ℕ → List ℕ → List ℕ → List ℕ → List ℕ
 ownersAfter n xs ys zs p q fence wanted owner =
-    cond (eqb (ownersFault n xs ys zs p q (length fence) (length wanted) (length owner) .number) 0)
-    (over (ownersOf (plantOf n xs ys zs) p q fence wanted) owner)
-    owner
+    after (ownersFault n xs ys zs p q (length fence) (length wanted) (length owner)) (ownersOf (plantOf n xs ys zs) p q fence wanted) owner

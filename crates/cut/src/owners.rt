@@ -15,7 +15,8 @@ ghost use Rattle.rules.specs.Groups.{table};
 ghost use Rattle.rules.specs.Rates.{rateOk};
 ghost use Rattle.rules.specs.Refusals.{Accepted};
 ghost use Rattle.cut.specs.Search.{Lasts, Priors};
-ghost use Rattle.cut.specs.Calls.{over, fenceOf, ownersOf, ownersFault, ownersAfter};
+ghost use Rattle.rules.specs.Lists.{over};
+ghost use Rattle.cut.specs.Calls.{fenceOf, ownersOf, ownersFault, ownersAfter};
 
 // Nobody owns any of the first n devices.
 fn clear_owners(n: usize, owner: &mut [usize])

@@ -12,7 +12,8 @@ use Rattle.rules.specs.Plant.{Plant, plantOf, Sound}
 use Rattle.rules.specs.Groups.{table, groups, distinct}
 use Rattle.rules.specs.Refusals.{done}
 use Rattle.rules.proofs.RefusalLaws.{accepted-sound}
-use Rattle.cut.specs.Calls.{over, wantedIn, ownersFault, ownersOf, ownersAfter}
+use Rattle.rules.specs.Lists.{over}
+use Rattle.cut.specs.Calls.{wantedIn, ownersFault, ownersOf, ownersAfter}
 use Rattle.rules.proofs.RangeLaws.{InRange, range-in}
 use Rattle.grouping.specs.declared.level.Level.{Level}
 use Rattle.grouping.specs.Calls.{groupingFault, groupingAnswer, labelsAfter}

@@ -10,8 +10,8 @@ use native.Mathlib.Omega.{arith}
 use borrow.Author.Tests.{le-ltb, lt-ltb}
 use Rattle.rules.specs.declared.Refusal.{Refusal}
 use Rattle.rules.specs.Rates.{rateOk}
-use Rattle.rules.specs.Refusals.{done, cause, orElse, firstOf, rateFault, roomFault, plantFault, Accepted}
-use Rattle.rules.proofs.RefusalLaws.{call-is, call-plant, plant-clean, done-accepted, accepted-done}
+use Rattle.rules.specs.Refusals.{done, cause, orElse, firstOf, rateFault, roomFault, afterPlant, about, nothing, plantSays, plantFault, Accepted}
+use Rattle.rules.proofs.RefusalLaws.{done-next, call-is, call-plant, plant-clean, done-accepted, accepted-done}
 use Rattle.cut.specs.Calls.{ownersFault}
 use Rattle.grouping.specs.Calls.{groupingFault}
 
@@ -29,7 +29,7 @@ module _ (n : ℕ) (xs ys zs : List ℕ) (p q : ℕ) where
 
   -- a call with a plant, a rate and a room
   abbrev call : Refusal → Refusal
-  call room = orElse plant (firstOf (rateFault p q ∷ done ∷ done ∷ done ∷ room ∷ done ∷ []))
+  call room = orElse plant (firstOf (rateFault p q ∷ room ∷ []))
 
   good : Clear → plant ≡ done
   good c = accepted-done n xs ys zs (c .accepted)
@@ -50,12 +50,12 @@ module _ (n : ℕ) (xs ys zs : List ℕ) (p q : ℕ) where
   fault = ownersFault n xs ys zs p q 128 128 128
 
   fault-is : fault ≡ call rooms
-  unfolding fault ownersFault rooms
-  fault-is = call-is n xs ys zs (rateFault p q) done done done rooms done
+  unfolding fault ownersFault rooms afterPlant about plantSays nothing firstOf
+  fault-is = call-is n xs ys zs _ refl refl refl refl ∙ simp done-next
 
   grouping-is : (room : ℕ) → groupingFault n xs ys zs p q room ≡ call (roomFault n room)
-  unfolding groupingFault
-  grouping-is room = call-is n xs ys zs (rateFault p q) done done done (roomFault n room) done
+  unfolding groupingFault afterPlant about plantSays nothing firstOf
+  grouping-is room = call-is n xs ys zs _ refl refl refl refl ∙ simp done-next
 
   pub owners-done : Clear → ownersFault n xs ys zs p q 128 128 128 ≡ done
   unfolding fault rooms firstOf orElse cause done roomFault

@@ -21,8 +21,9 @@ use Rattle.rules.proofs.GroupLaws.{group-holds, group-largest}
 use Rattle.rules.proofs.LabelLaws.{lowest-agree, table-agree, label-same}
 use Rattle.rules.proofs.Sweep.{sweep-owner, sweep-self, sweep-group, sweep-same, sweep-label}
 use Rattle.rules.proofs.Instance.{family, sweep-agree}
-use Rattle.cut.specs.Calls.{over, fenceOf, wantedIn, ownersOf}
-use Rattle.cut.proofs.FillLaws.{over-front}
+use Rattle.rules.specs.Lists.{over}
+use Rattle.cut.specs.Calls.{fenceOf, wantedIn, ownersOf}
+use Rattle.rules.proofs.FillLaws.{over-front}
 use Rattle.grouping.specs.declared.level.Level.{Level}
 use Rattle.grouping.specs.Level.{firstWith, IsLevel, padded, levelOf, LevelAt, Enough, heads, Between}
 

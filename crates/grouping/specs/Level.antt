@@ -11,7 +11,8 @@ use Rattle.rules.specs.Cut.{Inside, Agree}
 use Rattle.rules.specs.Community.{community}
 use Rattle.rules.specs.Groups.{groupOf, lowest, label, groups, table, distinct}
 use Rattle.rules.specs.Sweep.{sweep}
-use Rattle.cut.specs.Calls.{over, fenceOf, wantedIn}
+use Rattle.rules.specs.Lists.{over}
+use Rattle.cut.specs.Calls.{fenceOf, wantedIn}
 use Rattle.grouping.specs.declared.level.Level.{Level}
 
 -- the lowest of n devices with the owner of v; no public contract cites it

@@ -3,7 +3,7 @@ ghost use mathlib.Core.Path.{_≡_};
 ghost use Prim.Native.Nat.{ℕ, _≤_, _<_};
 ghost use lib.ListN.{length, getD};
 ghost use Rattle.rules.specs.Groups.{table, distinct};
-ghost use Rattle.cut.specs.Calls.{over};
+ghost use Rattle.rules.specs.Lists.{over};
 ghost use Rattle.grouping.specs.Level.{firstWith};
 
 // Fills for each device the lowest one with its owner, and counts these.

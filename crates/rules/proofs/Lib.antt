@@ -13,6 +13,7 @@
 --     Family        what the groups need of the communities
 --     GroupLaws     the group of a device
 --     LabelLaws     the lowest device of a set, the label of a device, a list by its entries
+--     FillLaws      a lent list filled at the front, entry by entry
 --     DistinctLaws  the number of distinct labels: of devices that are their own label
 --     Divides       a lower rate never divides a group of a higher one
 --     Instance      the communities at a rate are such a family; the laws of groups for all positive fractions
@@ -31,6 +32,7 @@ pub mod Family
 pub mod GroupLaws
 pub mod LabelLaws
 pub mod DistinctLaws
+pub mod FillLaws
 pub mod Divides
 pub mod Sweep
 pub mod Instance

@@ -3,7 +3,7 @@
 use Prim.Native.Nat.{ℕ, zero, suc, _+_, _-_, _≤_, _<_, zero-le, suc-le-suc}
 use mathlib.Core.Path.{_≡_, refl, sym, ap, subst, _∙_}
 use mathlib.Core.Bool.{Bool, true, false, not, _&&_, _||_, cond, true≢false}
-use mathlib.Core.List.{List, [], _∷_}
+use mathlib.Core.List.{List, [], _∷_, map}
 use mathlib.Core.Logic.{_⊎_, inl, inr}
 use native.Mathlib.Nat.{suc-ne-zero, le-refl, lt-irrefl, eq-or-lt-of-le}
 use native.Mathlib.Omega.{arith}
@@ -13,7 +13,7 @@ use lib.ListN.{length, getD}
 use Rattle.rules.proofs.SetLaws.{and-left, and-right, or-off-left, or-off-right, not-off}
 use Rattle.rules.specs.declared.Refusal.{Refusal}
 use Rattle.rules.specs.Plant.{Line, Plant, linesOf, plantOf, EndsBelow, Sound}
-use Rattle.rules.specs.Refusals.{done, cause, orElse, firstOf, devicesFault, listsFault, rises, lineFault, linesFrom, linesFault, Causes, inOrder, plantFault, Accepted}
+use Rattle.rules.specs.Refusals.{done, cause, orElse, firstOf, devicesFault, listsFault, rises, lineFault, linesFrom, linesFault, Kind, ofText, ofDevices, ofLists, ofLines, afterPlant, fixedOrder, inOrder, nothing, about, plantSays, plantFault, Accepted}
 
 -- number 0 goes with place 0
 pub record Clean (r : Refusal) : Type 0 where
@@ -65,6 +65,10 @@ orElse-left {r} s cr = go (eqb (r .number) 0) refl
 pub orElse-right : {r : Refusal} (s : Refusal) → Clean r → orElse r s ≡ done → s ≡ done
 orElse-right s cr e = sym (orElse-next s (orElse-left s cr e)) ∙ e
 
+-- what a call says nothing of is passed over
+pub done-next : (s : Refusal) → orElse done s ≡ s
+done-next s = orElse-next s refl
+
 pub line-clean : (n : ℕ) (xs ys zs : List ℕ) (k : ℕ) → Clean (lineFault n xs ys zs k)
 unfolding lineFault firstOf
 line-clean n xs ys zs k =
@@ -90,12 +94,11 @@ lists-clean a b c = clean-orElse (clean-cause _ 2 0) (clean-orElse (clean-cause 
 -- the check of a plant is these three, in order
 pub plant-is : (n : ℕ) (xs ys zs : List ℕ)
     → plantFault n xs ys zs ≡ orElse (devicesFault n) (orElse (listsFault (length xs) (length ys) (length zs)) (linesFault n xs ys zs))
-unfolding plantFault inOrder firstOf
+unfolding plantFault plantSays about nothing inOrder fixedOrder afterPlant firstOf
 plant-is n xs ys zs =
     orElse-next _ refl
     ∙ ap (λ (r : Refusal). orElse (devicesFault n) (orElse (listsFault (length xs) (length ys) (length zs)) r))
-    (ap (orElse (linesFault n xs ys zs)) (orElse-next _ refl ∙ orElse-next _ refl ∙ orElse-next _ refl ∙ orElse-next _ refl ∙ orElse-next _ refl ∙ orElse-next _ refl)
-    ∙ orElse-done (linesFault n xs ys zs) (lines-clean n xs ys zs))
+    (ap (orElse (linesFault n xs ys zs)) (simp done-next) ∙ orElse-done (linesFault n xs ys zs) (lines-clean n xs ys zs))
 
 pub plant-clean : (n : ℕ) (xs ys zs : List ℕ) → Clean (plantFault n xs ys zs)
 plant-clean n xs ys zs =
@@ -234,28 +237,18 @@ orElse-assoc r s t = go (eqb (r .number) 0) refl
     go false e = rw e
 
 -- a call on a plant: the plant first, then what the call adds
-pub call-is : (n : ℕ) (xs ys zs : List ℕ) (rate device self level room never : Refusal)
-    → inOrder (record {
-      text = done;
-      devices = devicesFault n;
-      lists = listsFault (length xs) (length ys) (length zs);
-      lines = linesFault n xs ys zs;
-      rate = rate;
-      device = device;
-      self = self;
-      level = level;
-      room = room;
-      never = never;
-    })
-    ≡ orElse (plantFault n xs ys zs) (firstOf (rate ∷ device ∷ self ∷ level ∷ room ∷ never ∷ []))
-unfolding inOrder firstOf
-call-is n xs ys zs rate device self level room never =
-    let rest = orElse rate (orElse device (orElse self (orElse level (orElse room (orElse never done))))) in
+pub call-is : (n : ℕ) (xs ys zs : List ℕ) (says : Kind → Refusal) → says ofText ≡ done → says ofDevices ≡ devicesFault n
+    → says ofLists ≡ listsFault (length xs) (length ys) (length zs) → says ofLines ≡ linesFault n xs ys zs
+    → inOrder says ≡ orElse (plantFault n xs ys zs) (firstOf (map says afterPlant))
+unfolding inOrder fixedOrder firstOf
+call-is n xs ys zs says t d l k =
+    let rest = firstOf (map says afterPlant) in
     let lists = listsFault (length xs) (length ys) (length zs) in
-    orElse-next _ refl
+    rw (t, d, l, k)
+    (done-next _
     ∙ ap (orElse (devicesFault n)) (sym (orElse-assoc lists (linesFault n xs ys zs) rest))
     ∙ sym (orElse-assoc (devicesFault n) (orElse lists (linesFault n xs ys zs)) rest)
-    ∙ ap (λ (r : Refusal). orElse r rest) (sym (plant-is n xs ys zs))
+    ∙ ap (λ (r : Refusal). orElse r rest) (sym (plant-is n xs ys zs)))
 
 -- a call that is refused for its plant, and one that is not
 pub call-plant : (n : ℕ) (xs ys zs : List ℕ) (rest : Refusal) → (plantFault n xs ys zs .number ≡ 0 → ⊥) → orElse (plantFault n xs ys zs) rest ≡ plantFault n xs ys zs

@@ -6,6 +6,7 @@
 --     Sweep       the owners of devices, by going through the devices once
 --     Rates       accepted rates, order of fractions, lowest terms
 --     Refusals    each cause of a refusal, and the first in the fixed order
+--     Lists       a lent list after a call
 --     Hierarchy   levels, low rates and joining rates
 --     Stretch     what the search between two levels finds; no public contract cites it
 --     Figures     K1 to K12 as a list
@@ -16,6 +17,7 @@ pub mod Groups
 pub mod Sweep
 pub mod Rates
 pub mod Refusals
+pub mod Lists
 pub mod Hierarchy
 pub mod Stretch
 pub mod Figures

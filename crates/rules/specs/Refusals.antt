@@ -3,7 +3,7 @@
 use Prim.Native.Nat.{ℕ, zero, suc, _≤_, _<_}
 use mathlib.Core.Path.{_≡_}
 use mathlib.Core.Bool.{Bool, true, not, _&&_, _||_, cond}
-use mathlib.Core.List.{List, [], _∷_}
+use mathlib.Core.List.{List, [], _∷_, map}
 use lib.Dec.{leb, ltb, eqb}
 use lib.ListN.{length, getD}
 use Rattle.rules.specs.declared.Refusal.{Refusal}
@@ -70,51 +70,67 @@ deviceFault n d = cause (leb n d) 10 0
 unfoldable pub roomFault : ℕ → ℕ → Refusal
 roomFault needed room = cause (ltb room needed) 12 0
 
--- what a call has to say of each kind of cause: `done` of those that do not concern its inputs
-pub record Causes : Type 0 where
-  pub text : Refusal
-  pub devices : Refusal
-  pub lists : Refusal
-  pub lines : Refusal
-  pub rate : Refusal
-  pub device : Refusal
-  pub self : Refusal
-  pub level : Refusal
-  pub room : Refusal
-  pub never : Refusal
+-- a kind of cause, by the lowest of its numbers: text 14 and 15, devices 1 and 2, lists 3 and 4, lines 5 to 8; rate, device, self, level, room and never have one number each
+abbrev pub Kind : Type 0
+Kind = ℕ
 
--- "Order: 14, 15, 1, 2, 3, 4; then lines from the lowest, within a line 5, 6, 7, 8; then 9, 10, 11, 16, 12, 13."
-unfoldable pub inOrder : Causes → Refusal
-inOrder c =
-    firstOf
-    (c .text
-    ∷ c .devices
-    ∷ c .lists
-    ∷ c .lines
-    ∷ c .rate
-    ∷ c .device
-    ∷ c .self
-    ∷ c .level
-    ∷ c .room
-    ∷ c .never
-    ∷ [])
+abbrev pub ofText : Kind
+ofText = 14
+
+abbrev pub ofDevices : Kind
+ofDevices = 1
+
+abbrev pub ofLists : Kind
+ofLists = 3
+
+abbrev pub ofLines : Kind
+ofLines = 5
+
+abbrev pub ofRate : Kind
+ofRate = 9
+
+abbrev pub ofDevice : Kind
+ofDevice = 10
+
+abbrev pub ofSelf : Kind
+ofSelf = 11
+
+abbrev pub ofLevel : Kind
+ofLevel = 16
+
+abbrev pub ofRoom : Kind
+ofRoom = 12
+
+abbrev pub ofNever : Kind
+ofNever = 13
+
+-- "Order: 14, 15, 1, 2, 3, 4; then lines from the lowest, within a line 5, 6, 7, 8; then 9, 10, 11, 16, 12, 13.": the plant's three, and what comes after them
+unfoldable pub afterPlant : List Kind
+afterPlant = ofRate ∷ ofDevice ∷ ofSelf ∷ ofLevel ∷ ofRoom ∷ ofNever ∷ []
+
+unfoldable pub fixedOrder : List Kind
+fixedOrder = ofText ∷ ofDevices ∷ ofLists ∷ ofLines ∷ afterPlant
+
+-- the first fault in the fixed order, of what a call says of each kind of cause
+unfoldable pub inOrder : (Kind → Refusal) → Refusal
+inOrder says = firstOf (map says fixedOrder)
+
+-- "A call gives only those that concern its inputs.": it says nothing, and beside what it says already r of one kind
+unfoldable pub nothing : Kind → Refusal
+nothing k = done
+
+unfoldable pub about : Kind → Refusal → (Kind → Refusal) → Kind → Refusal
+about kind r says k = cond (eqb k kind) r (says k)
+
+-- what every call on a plant says
+unfoldable pub plantSays : ℕ → List ℕ → List ℕ → List ℕ → Kind → Refusal
+plantSays n xs ys zs =
+    about ofDevices (devicesFault n)
+    (about ofLists (listsFault (length xs) (length ys) (length zs)) (about ofLines (linesFault n xs ys zs) nothing))
 
 -- what the check of a plant answers
 unfoldable pub plantFault : ℕ → List ℕ → List ℕ → List ℕ → Refusal
-plantFault n xs ys zs =
-    inOrder
-    (record {
-      text = done;
-      devices = devicesFault n;
-      lists = listsFault (length xs) (length ys) (length zs);
-      lines = linesFault n xs ys zs;
-      rate = done;
-      device = done;
-      self = done;
-      level = done;
-      room = done;
-      never = done;
-    })
+plantFault n xs ys zs = inOrder (plantSays n xs ys zs)
 
 -- what "The plant" accepts, quantity by quantity: devices, lists, and of each line its ends, its place after the one before, and its signals
 pub record Accepted (n : ℕ) (xs ys zs : List ℕ) : Type 0 where

@@ -8,11 +8,11 @@ use mathlib.Core.List.{List, [], _∷_}
 use lib.ListN.{length, getD, length-append}
 use borrow.Author.Tests.{le-ltb}
 use Rattle.rules.specs.Refusals.{done, cause, orElse, linesFault, plantFault, Accepted}
-use Rattle.rules.proofs.RefusalLaws.{Clean, clean-cause, clean-orElse, orElse-left, orElse-right, lines-clean, devices-clean, lists-clean, plant-is, done-accepted}
+use Rattle.rules.proofs.RefusalLaws.{done-next, Clean, clean-cause, clean-orElse, orElse-left, orElse-right, lines-clean, devices-clean, lists-clean, plant-is, done-accepted}
 use Rattle.text.specs.Lines.{endLine, rowText}
 use Rattle.text.specs.Form.{rowsText, plantText, form}
 use Rattle.text.specs.Reading.{longFault, firstsOf, secondsOf, signalsOf, noRoom, roomsFault, readFault, headFault}
-use Rattle.text.proofs.Judged.{cause-off, room-first, room-second, room-third, rooms-clean, head-clean, head-done, head-line, read-order, plant-lines, done-next}
+use Rattle.text.proofs.Judged.{cause-off, room-first, room-second, room-third, rooms-clean, head-clean, head-done, head-line, read-order, plant-lines}
 use Rattle.text.proofs.Wrote.{row-length}
 use Rattle.text.proofs.Answers.{text-length}
 use Rattle.text.proofs.NumberLaws.{digits-short}

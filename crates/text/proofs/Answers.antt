@@ -9,13 +9,13 @@ use lib.Dec.{ltb}
 use lib.ListN.{length, length-append}
 use borrow.Author.Tests.{ne-eqb, lt-ltb, le-ltb}
 use Rattle.rules.specs.declared.Refusal.{Refusal}
-use Rattle.rules.specs.Refusals.{done, cause, orElse, firstOf, roomFault, inOrder, plantFault, Accepted}
-use Rattle.rules.proofs.RefusalLaws.{Clean, clean-cause, orElse-done, orElse-first, plant-is, plant-clean, done-accepted}
+use Rattle.rules.specs.Refusals.{done, cause, orElse, firstOf, roomFault, afterPlant, nothing, about, plantSays, plantFault, Accepted}
+use Rattle.rules.specs.Lists.{over}
+use Rattle.rules.proofs.RefusalLaws.{done-next, call-is, Clean, clean-cause, orElse-done, orElse-first, plant-clean, done-accepted}
 use Rattle.text.specs.Numbers.{digits}
 use Rattle.text.specs.Lines.{plantLine, devicesKey, linesKey, endLine, newline, fieldText}
 use Rattle.text.specs.Form.{rowsText, plantText}
 use Rattle.text.specs.Writing.{placed, writeFault, writeAnswer, writeList, WriteIs}
-use Rattle.text.proofs.Judged.{orElse-assoc, done-next}
 use Rattle.text.proofs.Wrote.{field-length}
 
 pub text-length : (n : ℕ) (xs ys zs : List ℕ)
@@ -35,10 +35,10 @@ text-length n xs ys zs =
 -- the fixed order, of what writing can give
 pub write-order : (n : ℕ) (xs ys zs : List ℕ) (room : ℕ)
     → writeFault n xs ys zs room ≡ orElse (plantFault n xs ys zs) (roomFault (length (plantText n xs ys zs)) room)
-unfolding writeFault inOrder firstOf roomFault
+unfolding writeFault afterPlant about plantSays nothing firstOf roomFault
 write-order n xs ys zs room =
     let short = ltb room (length (plantText n xs ys zs)) in
-    simp (plant-is, orElse-assoc, done-next, orElse-done (cause short 12 0) (clean-cause short 11 0)) refl
+    call-is n xs ys zs _ refl refl refl refl ∙ simp (done-next, orElse-done (cause short 12 0) (clean-cause short 11 0)) refl
 
 -- a refusal that comes first is the answer, and the list stays
 write-refused : (n : ℕ) (xs ys zs old : List ℕ) (r : Refusal) → writeFault n xs ys zs (length old) ≡ r → (r .number ≡ 0 → ⊥)
@@ -67,7 +67,7 @@ module _ (n : ℕ) (xs ys zs old : List ℕ) {r : Refusal} (p : r ≡ plantFault
 
     pub write-done : {k : ℕ} {new : List ℕ} → k ≡ length (plantText n xs ys zs) → k ≤ length old → new ≡ placed old 0 (plantText n xs ys zs)
         → WriteIs n xs ys zs old (record { number = 0; place = 0; count = k }) new
-    unfolding writeAnswer writeList roomFault cause done
+    unfolding writeAnswer writeList over roomFault cause done
     write-done {k} {new} e l w =
         let room : writeFault n xs ys zs (length old) ≡ done = write-order n xs ys zs (length old) ∙ rw (right, done-next, sym e, le-ltb (length old) k l) refl in
         record {

@@ -3,7 +3,7 @@
 use Prim.Native.Nat.{ℕ}
 use mathlib.Core.Path.{_≡_, refl}
 use mathlib.Core.List.{List, [], _∷_, map}
-use Rattle.rules.specs.Refusals.{done, cause, orElse, firstOf, devicesFault, listsFault, rises, lineFault, linesFrom, linesFault, inOrder}
+use Rattle.rules.specs.Refusals.{done, cause, orElse, firstOf, devicesFault, listsFault, rises, lineFault, linesFrom, linesFault, afterPlant, fixedOrder, inOrder, nothing, about, plantSays}
 use Rattle.text.specs.Numbers.{isDigit, run, valueOf, wellFormed, numberFrom, numberOf, decimal, digits}
 use Rattle.text.specs.Lines.{begins, fieldText, fieldRest, field, rowText, rowOf, rowSecond, rowFirst, row}
 use Rattle.text.specs.Form.{rowsText, plantText, goodRows, usedRows, column, endFault, rowsFault, formLines, formDevices, form}
@@ -74,5 +74,5 @@ unfolding plantText fieldText rowText rowsText digits decimal
 path-text = refl
 
 pub examples-hold : map (λ (e : Example). readFault (e .text) 10 10 10) examples ≡ map (λ (e : Example). record { number = e .number; place = e .place }) examples
-unfolding examples example zeroFirst tenDigits noNewline moreBytes missingRow surplusRow stopsEarly formFirst noDevice noEnd fullLists readFault longFault formFault valuesOf noRoom roomsFault inOrder orElse firstOf cause done devicesFault listsFault linesFault linesFrom lineFault rises form formDevices formLines rowsFault endFault goodRows usedRows column row rowFirst rowSecond rowOf field fieldRest begins numberOf numberFrom wellFormed run valueOf isDigit
+unfolding examples example zeroFirst tenDigits noNewline moreBytes missingRow surplusRow stopsEarly formFirst noDevice noEnd fullLists readFault longFault formFault valuesOf noRoom roomsFault afterPlant fixedOrder inOrder nothing about orElse firstOf cause done devicesFault listsFault linesFault linesFrom lineFault rises form formDevices formLines rowsFault endFault goodRows usedRows column row rowFirst rowSecond rowOf field fieldRest begins numberOf numberFrom wellFormed run valueOf isDigit
 examples-hold = refl

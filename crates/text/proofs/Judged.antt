@@ -10,8 +10,9 @@ use lib.Dec.{ltb, eqb}
 use lib.ListN.{length, take, drop, length-take}
 use borrow.Author.Tests.{eq-eqb, ne-eqb, lt-ltb, le-ltb, ltb-false, eqb-true, not-false}
 use Rattle.rules.specs.declared.Refusal.{Refusal}
-use Rattle.rules.specs.Refusals.{done, cause, orElse, firstOf, devicesFault, listsFault, linesFault, inOrder, plantFault}
-use Rattle.rules.proofs.RefusalLaws.{Clean, clean-cause, clean-orElse, orElse-done, orElse-first, orElse-next, orElse-left, orElse-right, devices-clean, lists-clean, plant-is, plant-clean}
+use Rattle.rules.specs.Refusals.{done, cause, orElse, firstOf, devicesFault, listsFault, linesFault, afterPlant, fixedOrder, inOrder, nothing, about, plantFault}
+use Rattle.rules.specs.Lists.{over}
+use Rattle.rules.proofs.RefusalLaws.{orElse-assoc, done-next, Clean, clean-cause, clean-orElse, orElse-done, orElse-first, orElse-next, orElse-left, orElse-right, devices-clean, lists-clean, plant-is, plant-clean}
 use Rattle.text.specs.declared.Row.{Row}
 use Rattle.text.specs.declared.Form.{Form}
 use Rattle.text.specs.declared.Reading.{Reading}
@@ -62,17 +63,6 @@ pub rooms-clean : (m a b c : ℕ) → Clean (roomsFault m a b c)
 unfolding roomsFault
 rooms-clean m a b c = clean-cause _ 11 0
 
-pub orElse-assoc : (a b c : Refusal) → orElse (orElse a b) c ≡ orElse a (orElse b c)
-unfolding orElse
-orElse-assoc a b c = go (eqb (a .number) 0) refl
-  where
-    go : (k : Bool) → eqb (a .number) 0 ≡ k → cond (eqb (cond k b a .number) 0) c (cond k b a) ≡ cond k (cond (eqb (b .number) 0) c b) a
-    go true e = refl
-    go false e = rw e refl
-
-pub done-next : (s : Refusal) → orElse done s ≡ s
-done-next s = orElse-next s refl
-
 -- the fixed order, of what reading can give
 pub read-order : (t : List ℕ) (a b c : ℕ)
     → readFault t a b c
@@ -81,7 +71,7 @@ pub read-order : (t : List ℕ) (a b c : ℕ)
     (orElse
     (linesFault (form t .devices) (firstsOf t) (secondsOf t) (signalsOf t))
     (roomsFault (form t .lines) a b c)))
-unfolding readFault inOrder firstOf headFault sizeFault
+unfolding readFault afterPlant fixedOrder about nothing inOrder firstOf headFault sizeFault
 read-order t a b c =
     simp (orElse-assoc, done-next, orElse-done (roomsFault (form t .lines) a b c) (rooms-clean (form t .lines) a b c)) refl
 
@@ -220,15 +210,15 @@ module _ (t xs ys zs : List ℕ) where
 
       pub read-done : {w : Reading} {as₁ bs₁ cs₁ : List ℕ} {b : Bool} → b ≡ noRoom (f .lines) (length xs) (length ys) (length zs) → b ≡ false
           → w ≡ record { number = 0; place = 0; devices = f .devices; lines = f .lines }
-          → as₁ ≡ us ++ drop (length us) xs → bs₁ ≡ vs ++ drop (length vs) ys → cs₁ ≡ ws ++ drop (length ws) zs → ReadIs t xs ys zs w as₁ bs₁ cs₁
+          → as₁ ≡ over us xs → bs₁ ≡ over vs ys → cs₁ ≡ over ws zs → ReadIs t xs ys zs w as₁ bs₁ cs₁
       unfolding readAnswer readList roomsFault cause done
       read-done e b q u v s =
           let right : readFault t (length xs) (length ys) (length zs) ≡ done = room-next ∙ rw (sym e ∙ b) refl in
           record {
             answer = q ∙ rw (right, k .is-form) refl;
-            firsts = u ∙ rw (right, k .firsts, values-length (λ w. w .first) t) refl;
-            seconds = v ∙ rw (right, k .seconds, values-length (λ w. w .second) t) refl;
-            signals = s ∙ rw (right, k .signals, values-length (λ w. w .signals) t) refl;
+            firsts = u ∙ rw (right, k .firsts) refl;
+            seconds = v ∙ rw (right, k .seconds) refl;
+            signals = s ∙ rw (right, k .signals) refl;
           }
 
 -- a head that is answered 0 is good

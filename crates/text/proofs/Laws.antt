@@ -18,6 +18,7 @@ use Rattle.text.specs.declared.Row.{Row}
 use Rattle.text.specs.declared.Reading.{Reading}
 use Rattle.text.specs.declared.Written.{Written}
 use Rattle.text.specs.Form.{plantText, form}
+use Rattle.rules.specs.Lists.{over}
 use Rattle.text.specs.Reading.{valuesOf, firstsOf, secondsOf, signalsOf, readFault, readAnswer, readList, ReadIs}
 use Rattle.text.specs.Writing.{writeFault, writeAnswer, writeList, WriteIs}
 use Rattle.text.proofs.Judged.{values-length}
@@ -77,7 +78,7 @@ pub record Gives (n : ℕ) (ps qs ss xs ys zs : List ℕ) (r : Reading) (us vs w
 -- "and then gives that plant"
 pub gives-the-plant : {t : List ℕ} {n : ℕ} {ps qs ss xs ys zs us vs ws : List ℕ} {r : Reading}
     → TextOf t n ps qs ss → Room (length ps) (length xs) (length ys) (length zs) → ReadIs t xs ys zs r us vs ws → Gives n ps qs ss xs ys zs r us vs ws
-unfolding done readAnswer readList
+unfolding done readAnswer readList over
 gives-the-plant {t} {n} {ps} {qs} {ss} {xs} {ys} {zs} x m i =
     let f : readFault t (length xs) (length ys) (length zs) ≡ done =
     rw (x .text) (text-accepted n ps qs ss (x .accepted) (length xs) (length ys) (length zs) (m .0) (m .1) (m .2)) in
@@ -95,7 +96,7 @@ write-clean n xs ys zs room = subst Clean (sym (write-order n xs ys zs room)) (c
 
 -- an accepted writing: the plant is accepted, and its text stands at the front of the list
 pub written-text : {n : ℕ} {ps qs ss old new : List ℕ} {w : Written} → WriteIs n ps qs ss old w new → w .number ≡ 0 → TextOf (take (w .count) new) n ps qs ss
-unfolding done writeAnswer writeList
+unfolding done writeAnswer writeList over
 written-text {n} {ps} {qs} {ss} {old} {new} {w} i e =
     let f : writeFault n ps qs ss (length old) ≡ done = write-clean n ps qs ss (length old) .whole (sym (ap (λ (x : Written). x .number) (i .answer)) ∙ e) in
     let count : w .count ≡ length (plantText n ps qs ss) = ap (λ (x : Written). x .count) (i .answer) ∙ rw f refl in
@@ -113,7 +114,7 @@ reads-back i e m j = gives-the-plant (written-text i e) m j
 -- an accepted text is that of the plant which is answered, and whose numbers then stand at the front of the lists
 pub read-given : {t xs ys zs us vs ws : List ℕ} {r : Reading} → ReadIs t xs ys zs r us vs ws → r .number ≡ 0
     → t ≡ plantText (r .devices) (take (r .lines) us) (take (r .lines) vs) (take (r .lines) ws)
-unfolding done readAnswer readList
+unfolding done readAnswer readList over
 read-given {t} {xs} {ys} {zs} {us} {vs} {ws} {r} i e =
     let f : readFault t (length xs) (length ys) (length zs) ≡ done =
     read-clean t (length xs) (length ys) (length zs) .whole (sym (ap (λ (x : Reading). x .number) (i .answer)) ∙ e) in

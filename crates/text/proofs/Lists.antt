@@ -10,6 +10,7 @@ use mathlib.Core.Path.{_≡_, refl, sym, ap, subst, _∙_}
 use mathlib.Core.List.{List, _++_, append-assoc, append-nil}
 use lib.ListN.{length, getD, set, take, drop, length-set, length-drop}
 use lib.Seq.{paste, paste-zero, paste-suc, take-length, take-suc-set, drop-drop}
+use Rattle.rules.specs.Lists.{over}
 use Rattle.text.specs.declared.Row.{Row}
 use Rattle.text.specs.Lines.{row}
 use Rattle.text.specs.Form.{column}
@@ -42,7 +43,8 @@ pub copied-front : {d s l : List ℕ} {i : ℕ} → Copied d 0 s l i → length 
 copied-front {d} {s} {l} {i} c room less =
     subst (λ (k : ℕ). Copied d 0 s (set l k (getD s i 0)) (i + 1)) (zero-add i) (copied-more c (omega arith) less)
 
-pub copied-whole : {d s l : List ℕ} {i : ℕ} → Copied d 0 s l i → length s ≤ i → l ≡ s ++ drop (length s) d
+pub copied-whole : {d s l : List ℕ} {i : ℕ} → Copied d 0 s l i → length s ≤ i → l ≡ over s d
+unfolding over
 copied-whole {d} {s} {l} {i} c h = copied-all c h ∙ ap (λ (k : ℕ). s ++ drop k d) (zero-add (length s))
 
 pub record Kept (f : Row → ℕ) (t : List ℕ) (start m : ℕ) (a : List ℕ) (at i : ℕ) : Type 0 where

@@ -3,11 +3,12 @@
 use Prim.Native.Nat.{ℕ}
 use mathlib.Core.Path.{_≡_}
 use mathlib.Core.Bool.{Bool, not, _||_, cond}
-use mathlib.Core.List.{List, [], _∷_, _++_}
+use mathlib.Core.List.{List, [], _∷_}
 use lib.Dec.{ltb, eqb}
 use lib.ListN.{length, drop}
 use Rattle.rules.specs.declared.Refusal.{Refusal}
-use Rattle.rules.specs.Refusals.{done, cause, orElse, firstOf, devicesFault, listsFault, linesFault, inOrder}
+use Rattle.rules.specs.Refusals.{cause, orElse, firstOf, devicesFault, listsFault, linesFault, ofText, ofDevices, ofLists, ofLines, ofRoom, inOrder, nothing, about}
+use Rattle.rules.specs.Lists.{after}
 use Rattle.text.specs.declared.Row.{Row}
 use Rattle.text.specs.declared.Form.{Form}
 use Rattle.text.specs.declared.Reading.{Reading}
@@ -47,18 +48,10 @@ roomsFault m a b c = cause (noRoom m a b c) 12 0
 unfoldable pub readFault : List ℕ → ℕ → ℕ → ℕ → Refusal
 readFault t a b c =
     inOrder
-    (record {
-      text = firstOf (longFault (length t) ∷ formFault (form t .line) ∷ []);
-      devices = devicesFault (form t .devices);
-      lists = listsFault (form t .lines) (form t .lines) (form t .lines);
-      lines = linesFault (form t .devices) (firstsOf t) (secondsOf t) (signalsOf t);
-      rate = done;
-      device = done;
-      self = done;
-      level = done;
-      room = roomsFault (form t .lines) a b c;
-      never = done;
-    })
+    (about ofText (firstOf (longFault (length t) ∷ formFault (form t .line) ∷ []))
+    (about ofDevices (devicesFault (form t .devices))
+    (about ofLists (listsFault (form t .lines) (form t .lines) (form t .lines))
+    (about ofLines (linesFault (form t .devices) (firstsOf t) (secondsOf t) (signalsOf t)) (about ofRoom (roomsFault (form t .lines) a b c) nothing)))))
 
 -- "answers n and the number of lines"; "every further answer is then absent or 0"
 unfoldable pub readAnswer : Refusal → List ℕ → Reading
@@ -74,9 +67,9 @@ readAnswer r t =
 abbrev pub refusedWith : ℕ → ℕ → Reading
 refusedWith number place = record { number = number; place = place; devices = 0; lines = 0 }
 
--- "Lent lists are untouched after any other number"; "entries past those filled stay untouched": the list that was old, after reading
+-- the list that was old, after reading
 unfoldable pub readList : Refusal → (Row → ℕ) → List ℕ → List ℕ → List ℕ
-readList r f t old = cond (eqb (r .number) 0) (valuesOf f t ++ drop (form t .lines) old) old
+readList r f t old = after r (valuesOf f t) old
 
 -- what reading the text t answers, r, and fills: the three lists were xs, ys and zs, and are us, vs and ws afterwards
 pub record ReadIs (t xs ys zs : List ℕ) (r : Reading) (us vs ws : List ℕ) : Type 0 where

@@ -8,7 +8,8 @@ use mathlib.Core.List.{List, _++_}
 use lib.Dec.{eqb}
 use lib.ListN.{length, take, drop}
 use Rattle.rules.specs.declared.Refusal.{Refusal}
-use Rattle.rules.specs.Refusals.{done, devicesFault, listsFault, linesFault, roomFault, inOrder}
+use Rattle.rules.specs.Refusals.{roomFault, ofRoom, inOrder, about, plantSays}
+use Rattle.rules.specs.Lists.{after}
 use Rattle.text.specs.declared.Written.{Written}
 use Rattle.text.specs.Form.{plantText}
 
@@ -19,28 +20,15 @@ placed old at w = take at old ++ w ++ drop (at + length w) old
 -- a wrong plant as the check has it, then 12, room being the length of the list to fill
 unfoldable pub writeFault : ℕ → List ℕ → List ℕ → List ℕ → ℕ → Refusal
 writeFault n xs ys zs room =
-    inOrder
-    (record {
-      text = done;
-      devices = devicesFault n;
-      lists = listsFault (length xs) (length ys) (length zs);
-      lines = linesFault n xs ys zs;
-      rate = done;
-      device = done;
-      self = done;
-      level = done;
-      room = roomFault (length (plantText n xs ys zs)) room;
-      never = done;
-    })
+    inOrder (about ofRoom (roomFault (length (plantText n xs ys zs)) room) (plantSays n xs ys zs))
 
 unfoldable pub writeAnswer : Refusal → ℕ → List ℕ → List ℕ → List ℕ → Written
 writeAnswer r n xs ys zs =
     record { number = r .number; place = r .place; count = cond (eqb (r .number) 0) (length (plantText n xs ys zs)) 0 }
 
--- "Lent lists are untouched after any other number"; "entries past those filled stay untouched"
+-- the list that was old, after writing
 unfoldable pub writeList : Refusal → ℕ → List ℕ → List ℕ → List ℕ → List ℕ → List ℕ
-writeList r n xs ys zs old =
-    cond (eqb (r .number) 0) (plantText n xs ys zs ++ drop (length (plantText n xs ys zs)) old) old
+writeList r n xs ys zs old = after r (plantText n xs ys zs) old
 
 -- what writing the plant answers, r, and fills: the list was old, and is new afterwards
 pub record WriteIs (n : ℕ) (xs ys zs old : List ℕ) (r : Written) (new : List ℕ) : Type 0 where

@@ -8,11 +8,11 @@ use crate::whole;
 use cut::check;
 use rules::Refusal;
 ghost use mathlib.Core.Path.{_≡_};
-ghost use mathlib.Core.List.{_++_};
 ghost use Prim.Native.Nat.{_≤_};
 ghost use lib.ListN.{length, take, drop};
 ghost use Rattle.text.specs.Form.{column};
 ghost use Rattle.rules.specs.Refusals.{orElse};
+ghost use Rattle.rules.specs.Lists.{over};
 ghost use Rattle.text.specs.Reading.{formFault, sizeFault, headFault, noRoom, refusedWith, ReadIs};
 
 // The first of two that is a refusal.
@@ -109,7 +109,7 @@ fn keep_rows(
 // Copies a list to the front of a lent one.
 fn fill(list: &mut [usize], from: &[usize])
     requires { ⌜ length (now from) ≤ length (now list) ⌝ }
-    ensures { λ _. ⌜ now (list .exit) ≡ now (from .entry) ++ drop (length (now (from .entry))) (now (list .entry)) ⌝ }
+    ensures { λ _. ⌜ now (list .exit) ≡ over (now (from .entry)) (now (list .entry)) ⌝ }
 {
     let mut i = 0;
     while i < from.len() {

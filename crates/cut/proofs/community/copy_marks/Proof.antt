@@ -3,7 +3,7 @@
 use Prim.Native.Nat.{_-_}
 use mathlib.Core.Path.{refl}
 use lib.ListN.{getD}
-use Rattle.cut.proofs.FillLaws.{Filled, filled-start, filled-more, filled-done}
+use Rattle.rules.proofs.FillLaws.{Filled, filled-start, filled-more, filled-done}
 use borrow.Author.Needs.{needs}
 use Rattle.cut.proofs.community.copy_marks.Statement.{statement}
 use Rattle.cut.proofs.community.copy_marks.Tie as tie

@@ -2,7 +2,7 @@
 -- Assumes nothing.
 use Prim.Native.Nat.{_-_}
 use mathlib.Core.Path.{refl}
-use Rattle.cut.proofs.FillLaws.{Filled, filled-start, filled-more, filled-done}
+use Rattle.rules.proofs.FillLaws.{Filled, filled-start, filled-more, filled-done}
 use borrow.Author.Needs.{needs}
 use Rattle.cut.proofs.owners.clear_owners.Statement.{statement}
 use Rattle.cut.proofs.owners.clear_owners.Tie as tie

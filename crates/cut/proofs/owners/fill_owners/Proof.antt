@@ -12,9 +12,10 @@ use native.Mathlib.Omega.{arith}
 use borrow.Author.Needs.{needs}
 use Rattle.rules.specs.Plant.{plantOf}
 use Rattle.rules.specs.Community.{communityIn}
-use Rattle.cut.specs.Calls.{over, fenceOf, wantedIn}
+use Rattle.rules.specs.Lists.{over}
+use Rattle.cut.specs.Calls.{fenceOf, wantedIn}
 use Rattle.cut.specs.Search.{Lasts, Priors}
-use Rattle.cut.proofs.FillLaws.{over-size, over-over}
+use Rattle.rules.proofs.FillLaws.{over-size, over-over}
 use Rattle.cut.proofs.IndexLaws.{lasts-none}
 use Rattle.cut.proofs.LeastLaws.{laid-accepted}
 use Rattle.cut.proofs.CallLaws.{zeros, cleared-again, Owning, owning-start, owning-size, owning-passed, owning-owned, owning-taken, owning-done, wanted-not, wanted-is, owners-are}

@@ -6,7 +6,7 @@ use mathlib.Core.Logic.{⊎-elim}
 use lib.Dec.{eqb}
 use lib.ListN.{getD}
 use borrow.Author.Tests.{eq-eqb, ne-eqb}
-use Rattle.cut.proofs.FillLaws.{Filled, filled-start, filled-more, filled-kept, filled-done}
+use Rattle.rules.proofs.FillLaws.{Filled, filled-start, filled-more, filled-kept, filled-done}
 use borrow.Author.Needs.{needs}
 use Rattle.cut.proofs.owners.paint_owners.Statement.{statement}
 use Rattle.cut.proofs.owners.paint_owners.Tie as tie

@@ -7,10 +7,10 @@ use mathlib.Core.Logic.{⊎-elim}
 use mathlib.Core.List.{List}
 use lib.ListN.{length, getD}
 use Rattle.rules.specs.Groups.{table}
-use Rattle.cut.specs.Calls.{over}
+use Rattle.rules.specs.Lists.{over}
 use Rattle.grouping.specs.Level.{firstWith}
-use Rattle.cut.proofs.FillLaws.{over-size}
-use Rattle.grouping.proofs.FillLaws.{Firsts, firsts-start, firsts-new, firsts-old, over-more, over-none, firsts-all, owns-le}
+use Rattle.rules.proofs.FillLaws.{over-size, over-more, over-none}
+use Rattle.grouping.proofs.OwnerLaws.{Firsts, firsts-start, firsts-new, firsts-old, firsts-all, owns-le}
 use Rattle.grouping.proofs.labels.fill.Statement.{statement}
 use Rattle.grouping.proofs.labels.fill.Tie as tie
 use Rattle.grouping.proofs.labels.fill.Reads as reads

@@ -2,7 +2,7 @@
 -- and as many are counted as are their own label. Assumes nothing.
 use mathlib.Core.Path.{_≡_, refl, sym, _∙_, ap}
 use mathlib.Core.Bool.{Bool, true, false, cond}
-use mathlib.Core.List.{List, [], _∷_, append-assoc}
+use mathlib.Core.List.{List}
 use mathlib.Core.Logic.{_⊎_, inl, inr, ⊎-elim}
 use Prim.Native.Nat.{ℕ, zero, suc, _+_, _≤_, _<_}
 use native.Mathlib.Nat.{eq-or-lt-of-le, add-zero}
@@ -10,28 +10,16 @@ use native.Mathlib.Numerals.{add-one}
 use native.Mathlib.Decide.{ℕ-discrete}
 use native.Mathlib.Omega.{arith}
 use lib.Dec.{eqb}
-use lib.ListN.{length, getD, set, drop, replicate, length-set, length-replicate, getD-replicate}
-use lib.Seq.{getD-set-same, getD-set-other, set-at, drop-cons}
+use lib.ListN.{length, getD, set, replicate, length-set, length-replicate, getD-replicate}
+use lib.Seq.{getD-set-same, getD-set-other}
 use borrow.Author.Tests.{eqb-true, eq-eqb, ne-eqb}
 use borrow.Author.Count.{below-more}
 use Rattle.rules.specs.Cut.{Devices}
 use Rattle.rules.specs.Groups.{lowest, table, distinct}
-use Rattle.rules.proofs.LabelLaws.{lowest-in, lowest-le, length-table}
-use Rattle.rules.proofs.DistinctLaws.{owns, table-snoc, distinct-owns}
-use Rattle.cut.specs.Calls.{over}
+use Rattle.rules.proofs.LabelLaws.{lowest-in, lowest-le}
+use Rattle.rules.proofs.DistinctLaws.{owns, distinct-owns}
+use Rattle.rules.specs.Lists.{over}
 use Rattle.grouping.specs.Level.{firstWith}
-
--- no entry yet
-pub over-none : (f : ℕ → ℕ) (old : List ℕ) → old ≡ over (table 0 f) old
-unfolding over table
-over-none f old = refl
-
--- one entry more
-pub over-more : (v : ℕ) (f : ℕ → ℕ) (old : List ℕ) (x : ℕ) → v < length old → x ≡ f v → set (over (table v f) old) v x ≡ over (table (v + 1) f) old
-unfolding over
-over-more v f old x h e =
-    rw (add-one, length-table, length-table, drop-cons old v 0, table-snoc, e, set-at (table v f) (getD old v 0) (drop (suc v) old) (f v) v (length-table v f))
-    (sym (append-assoc (table v f) (f v ∷ []) (drop (suc v) old)))
 
 -- the lowest device of a set is the first that the set holds
 pub lowest-first : (n : ℕ) (S : Devices) (v : ℕ) → v < n → S v ≡ true → ((u : ℕ) → u < v → S u ≡ true → ⊥) → lowest n S ≡ v

@@ -3,16 +3,17 @@
 use Prim.Native.Nat.{ℕ, zero, suc, _+_, _-_, _≤_, _<_, zero-le}
 use mathlib.Core.Path.{_≡_, refl, sym, ap, subst, _∙_}
 use mathlib.Core.Logic.{_⊎_, inl, inr, ⊎-elim}
-use mathlib.Core.List.{List, _++_}
+use mathlib.Core.List.{List, [], _∷_, _++_, append-assoc}
 use native.Mathlib.Nat.{not-suc-le-zero, eq-or-lt-of-le, le-of-suc-le-suc}
 use native.Mathlib.Decide.{decLt}
 use native.Mathlib.Numerals.{add-one}
 use native.Mathlib.Omega.{arith}
 use lib.ListN.{length, getD, set, drop, length-set, length-append, length-drop, List·getD-append}
-use lib.Seq.{ext-getD, getD-set-same, getD-set-other, getD-append-add, getD-drop, drop-append-seam}
+use lib.Seq.{ext-getD, getD-set-same, getD-set-other, getD-append-add, getD-drop, drop-append-seam, set-at, drop-cons}
 use Rattle.rules.specs.Groups.{table}
 use Rattle.rules.proofs.LabelLaws.{length-table, getD-table, table-agree}
-use Rattle.cut.specs.Calls.{over}
+use Rattle.rules.proofs.DistinctLaws.{table-snoc}
+use Rattle.rules.specs.Lists.{over}
 
 pub record Filled (n : ℕ) (f : ℕ → ℕ) (old new : List ℕ) (k : ℕ) : Type 0 where
   pub within : k ≤ n
@@ -111,3 +112,15 @@ over-size n f old h = over-length n f old h
 
 pub over-agree : (n : ℕ) (f h : ℕ → ℕ) (old : List ℕ) → ((v : ℕ) → v < n → f v ≡ h v) → over (table n f) old ≡ over (table n h) old
 over-agree n f h old e = ap (λ (t : List ℕ). over t old) (table-agree n f h e)
+
+-- no entry yet
+pub over-none : (f : ℕ → ℕ) (old : List ℕ) → old ≡ over (table 0 f) old
+unfolding over table
+over-none f old = refl
+
+-- one entry more
+pub over-more : (v : ℕ) (f : ℕ → ℕ) (old : List ℕ) (x : ℕ) → v < length old → x ≡ f v → set (over (table v f) old) v x ≡ over (table (v + 1) f) old
+unfolding over
+over-more v f old x h e =
+    rw (add-one, length-table, length-table, drop-cons old v 0, table-snoc, e, set-at (table v f) (getD old v 0) (drop (suc v) old) (f v) v (length-table v f))
+    (sym (append-assoc (table v f) (f v ∷ []) (drop (suc v) old)))
