@@ -71,9 +71,9 @@ accepted-exactly t a b c = (there, back)
 -- what reading answers and fills where it gives the plant of n and ps, qs and ss
 pub record Gives (n : ℕ) (ps qs ss xs ys zs : List ℕ) (r : Reading) (us vs ws : List ℕ) : Type 0 where
   pub answer : r ≡ record { number = 0; place = 0; devices = n; lines = length ps }
-  pub firsts : us ≡ ps ++ drop (length ps) xs
-  pub seconds : vs ≡ qs ++ drop (length ps) ys
-  pub signals : ws ≡ ss ++ drop (length ps) zs
+  pub firsts : us ≡ over ps xs
+  pub seconds : vs ≡ over qs ys
+  pub signals : ws ≡ over ss zs
 
 -- "and then gives that plant"
 pub gives-the-plant : {t : List ℕ} {n : ℕ} {ps qs ss xs ys zs us vs ws : List ℕ} {r : Reading}
@@ -85,9 +85,9 @@ gives-the-plant {t} {n} {ps} {qs} {ss} {xs} {ys} {zs} x m i =
     let s : TextRead n ps qs ss t = rw (x .text) (accepted-read n ps qs ss (x .accepted)) in
     record {
       answer = i .answer ∙ rw (f, s .devices, s .lines) refl;
-      firsts = i .firsts ∙ rw (f, s .firsts, s .lines) refl;
-      seconds = i .seconds ∙ rw (f, s .seconds, s .lines) refl;
-      signals = i .signals ∙ rw (f, s .signals, s .lines) refl;
+      firsts = i .firsts ∙ rw (f, s .firsts) refl;
+      seconds = i .seconds ∙ rw (f, s .seconds) refl;
+      signals = i .signals ∙ rw (f, s .signals) refl;
     }
 
 write-clean : (n : ℕ) (xs ys zs : List ℕ) (room : ℕ) → Clean (writeFault n xs ys zs room)
