@@ -1,7 +1,7 @@
 -- Two group lists of one plant: equal exactly if each device has the same group in both; the lists between two equal ones; and their numbers of groups.
 --     groups-agree, agree-groups   from equal lists to equal groups, and back
 --     squeeze                      between two rates with one grouping there is no other
---     fewer-or-same, same-number           a lower rate has no more groups, and as many only if they are the same
+--     fewer-or-same, same-number   a lower rate has no more groups, and as many only if they are the same
 --     some-group, most-groups      at least one group, at most n
 -- Assumes nothing.
 use Prim.Native.Nat.{ℕ, zero, suc, _*_, _≤_, _<_}
