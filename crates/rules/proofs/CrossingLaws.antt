@@ -5,10 +5,9 @@
 --     crossing-last                        if it is that at ap/aq, then from bp/bq up to, without, p/q the grouping is that at bp/bq
 -- Assumes nothing.
 use Prim.Native.Nat.{ℕ, _+_, _-_, _*_, _≤_, _<_}
-use mathlib.Core.Path.{_≡_, refl, sym, ap, _∙_}
-use mathlib.Core.Bool.{Bool, true}
-use mathlib.Core.Logic.{_⊎_, inl, inr}
-use native.Mathlib.Nat.{mul-add, mul-comm, mul-assoc, mul-left-comm, mul-le-mul-left, mul-le-mul-right, le-of-mul-le-mul-left, le-of-mul-le-mul-right, lt-of-mul-lt-mul-right, sub-add-cancel, lt-of-not-le, le-of-suc-le-suc, zero-mul, mul-one, eq-zero-or-pos}
+use mathlib.Core.Path.{_≡_, sym, ap, _∙_}
+use mathlib.Core.Bool.{true}
+use native.Mathlib.Nat.{mul-le-mul-left, mul-le-mul-right, le-of-mul-le-mul-left, le-of-mul-le-mul-right, lt-of-mul-lt-mul-right, sub-add-cancel, lt-of-not-le, le-of-suc-le-suc}
 use native.Mathlib.Omega.{arith}
 use Rattle.rules.specs.Plant.{Plant, Sound}
 use Rattle.rules.specs.Cut.{Devices, Inside, Agree, out, size, cost}
@@ -16,10 +15,8 @@ use Rattle.rules.specs.Community.{community, IsCommunity}
 use Rattle.rules.specs.Groups.{groupOf, groups}
 use Rattle.rules.specs.Rates.{Below, Same}
 use Rattle.rules.specs.Stretch.{Crossing}
-use Rattle.rules.proofs.SetLaws.{agree-inside, agree-sym, agree-both}
 use Rattle.rules.proofs.Sums.{agree-out, agree-size, agree-cost, size-inside, inside-equal}
 use Rattle.rules.proofs.Best.{community-is}
-use Rattle.rules.proofs.Rates.{core}
 use Rattle.rules.proofs.Family.{Family}
 use Rattle.rules.proofs.GroupLaws.{group-community, group-holds, group-largest, group-same}
 use Rattle.rules.proofs.Instance.{family, group-within}
@@ -60,22 +57,11 @@ crossing-agree {g} {F} {C} {F′} {C′} {p} {q} s f c x =
 
 -- one fraction, one crossing
 module _ (p₀ q₀ p q : ℕ) (some : 1 ≤ q₀) (same : Same p₀ q₀ p q) where
-  scaled : (u D : ℕ) → q * (q₀ * u + p₀ * D) ≡ q₀ * (q * u + p * D)
-  scaled u D =
-      rw (mul-add q (q₀ * u) (p₀ * D), mul-add q₀ (q * u) (p * D), mul-left-comm q q₀ u)
-      (omega (
-        arith,
-        mul-left-comm q p₀ D,
-        mul-left-comm q₀ p D,
-        sym (mul-assoc p₀ q D) ∙ ap (λ (m : ℕ). m * D) same ∙ mul-assoc p q₀ D,
-      ))
-
-  -- q₀ × t ≤ q₀ × u + p₀ × D, and the other way round
   reduce-below : (t u D : ℕ) → q₀ * t ≤ q₀ * u + p₀ * D → q * t ≤ q * u + p * D
-  reduce-below t u D h = le-of-mul-le-mul-left (rw (← scaled u D, mul-left-comm q₀ q t) (mul-le-mul-left q h)) some
+  reduce-below t u D h = le-of-mul-le-mul-left {k = q₀} (omega (arith, mul-le-mul-left q h, ap (λ (m : ℕ). m * D) same)) some
 
   reduce-above : (t u D : ℕ) → q₀ * u + p₀ * D ≤ q₀ * t → q * u + p * D ≤ q * t
-  reduce-above t u D h = le-of-mul-le-mul-left (rw (← scaled u D, mul-left-comm q₀ q t) (mul-le-mul-left q h)) some
+  reduce-above t u D h = le-of-mul-le-mul-left {k = q₀} (omega (arith, mul-le-mul-left q h, ap (λ (m : ℕ). m * D) same)) some
 
   pub crossing-reduced : {g : Plant} {F C : ℕ → Devices} → Crossing g F C p₀ q₀ → Crossing g F C p q
   crossing-reduced {g} {F} {C} x =
@@ -92,7 +78,7 @@ module _ (p₀ q₀ p q : ℕ) (some : 1 ≤ q₀) (same : Same p₀ q₀ p q) w
 -- the cost of T, by what it has over the size of S
 cost-gap : (g : Plant) (p q : ℕ) (S T : Devices) → size g S ≤ size g T → cost g p q T ≡ q * out (g .lines) T + p * (size g T - size g S) + p * size g S
 unfolding cost
-cost-gap g p q S T l = omega (arith, mul-add p (size g T - size g S) (size g S), ap (λ (m : ℕ). p * m) (sub-add-cancel l))
+cost-gap g p q S T l = omega (arith, ap (λ (m : ℕ). p * m) (sub-add-cancel l))
 
 -- T saves e against a set S of no more devices at p/q, and costs no less at p′/q′
 weighed :
@@ -105,12 +91,8 @@ unfolding cost
 weighed g p q p′ q′ e S T l h k =
     omega (
       arith,
-      simp mul-add at (mul-le-mul-left q′ saves),
-      simp mul-add at (mul-le-mul-left q costs),
-      mul-left-comm q q′ (out (g .lines) S),
-      mul-left-comm q q′ (out (g .lines) T),
-      mul-left-comm q′ p D ∙ sym (mul-assoc p q′ D),
-      mul-left-comm q p′ D ∙ sym (mul-assoc p′ q D),
+      mul-le-mul-left q′ saves,
+      mul-le-mul-left q costs,
     )
   where
     D : ℕ
@@ -140,6 +122,12 @@ not-below f = le-of-suc-le-suc (lt-of-not-le f)
 -- a smaller set that holds the device costs more than the community
 dearer : {g : Plant} {p q d : ℕ} {C : Devices} (T : Devices) → IsCommunity g p q d C → T d ≡ true → size g T < size g C → cost g p q C < cost g p q T
 dearer {g} {p} {q} {d} {C} T c t l = lt-of-not-le (λ h. absurd (omega (arith, c .fewest T t h)))
+
+-- a group is the community of a device
+group-is : (g : Plant) (p q : ℕ) → Sound g → 1 ≤ p → (i : ℕ) → i < g .devices → (d : ℕ) × (d < g .devices) × IsCommunity g p q d (groupOf g p q i)
+group-is g p q s o i h =
+    let (d, hd, same) = group-community g p q (family g p q s o) i h in
+    (d, hd, rw same (community-is g p q d s hd))
 
 -- F v is the group of v at ap/aq, C v its group at the rate bp/bq, which is not above it
 module _ (g : Plant) (ap aq bp bq : ℕ) (s : Sound g) (oa : 1 ≤ ap) (ob : 1 ≤ bp) (ub : 1 ≤ bq) (lower : bp * aq ≤ ap * bq) where
@@ -193,35 +181,27 @@ module _ (g : Plant) (ap aq bp bq : ℕ) (s : Sound g) (oa : 1 ≤ ap) (ob : 1 �
 
     pub crossing-over : Below bp bq p q
     crossing-over =
-        let (d, hd, same) = group-community g bp bq coarse (x .at) (x .device) in
-        let is : IsCommunity g bp bq d top = rw same (community-is g bp bq d s hd) in
+        let (d, hd, is) = group-is g bp bq s ob (x .at) (x .device) in
         let (l, k) = no-dearer d hd (is .holds) in
         let more = dearer (F d) is (group-holds g ap aq fine d hd) l in
         lt-of-mul-lt-mul-right (size g top - size g (F d))
-        (omega (arith, mul-one q, weighed g bp bq p q 1 (F d) top (omega arith) (omega arith) k))
+        (omega (arith, weighed g bp bq p q 1 (F d) top (omega arith) (omega arith) k))
 
     -- so it is positive
     pub crossing-positive : 1 ≤ p
-    crossing-positive = go (eq-zero-or-pos p)
-      where
-        go : (p ≡ 0) ⊎ (0 < p) → 1 ≤ p
-        go (inl z) = absurd (omega (arith, crossing-over, rw (z, zero-mul) at crossing-over))
-        go (inr h) = h
+    crossing-positive = lt-of-mul-lt-mul-right bq (omega (arith, crossing-over))
 
     pub crossing-not-above : p * aq ≤ ap * q
     crossing-not-above =
         let (v, hv, m, l, k) = no-cheaper (x .at) (x .device) (x .grows) in
-        let (r, hr, same) = group-community g ap aq fine v hv in
-        let is : IsCommunity g ap aq r (F v) = rw same (community-is g ap aq r s hr) in
+        let (r, hr, is) = group-is g ap aq s oa v hv in
         let low = is .least top (child (x .at) v (x .device) hv m r hr (is .holds)) in
         crossed g p q ap aq (F v) top l k low
 
     -- at p/q the coarser group of `at` is no community: a finer group would do as well with fewer devices
     pub crossing-parts : groups g p q ≡ groups g bp bq → ⊥
     crossing-parts e =
-        let fam = family g p q s crossing-positive in
-        let (d, hd, same) = group-community g p q fam (x .at) (x .device) in
-        let is : IsCommunity g p q d (groupOf g p q (x .at)) = rw same (community-is g p q d s hd) in
+        let (d, hd, is) = group-is g p q s crossing-positive (x .at) (x .device) in
         let one : Agree n (groupOf g p q (x .at)) top = groups-agree g p q bp bq e s crossing-positive ob (x .at) (x .device) in
         let (l, k) = no-dearer d hd (sym (one d hd) ∙ is .holds) in
         let more = dearer (F d) is (group-holds g ap aq fine d hd) (omega (arith, agree-size g (groupOf g p q (x .at)) top one)) in
@@ -239,20 +219,14 @@ module _ (g : Plant) (ap aq bp bq : ℕ) (s : Sound g) (oa : 1 ≤ ap) (ob : 1 �
       not-above : r * aq ≤ ap * t
       not-above =
           le-of-mul-le-mul-right {k = q}
-          (omega (
-            arith,
-            mul-le-mul-right aq under,
-            mul-le-mul-right t crossing-not-above,
-          ))
+          (omega (arith, mul-le-mul-right aq under, mul-le-mul-right t crossing-not-above))
           u
 
       -- a coarser group that is no finer one is a community at r/t of a device whose community at p/q is a finer group
       grown : (w : ℕ) → w < n → size g (F w) < size g (C w) → size g (C w) ≤ size g (G w)
       grown w hw k =
           let (v, hv, m, l, cheap) = no-cheaper w hw k in
-          let mid = family g p q s crossing-positive in
-          let (d, hd, same) = group-community g p q mid v hv in
-          let is : IsCommunity g p q d (groupOf g p q v) = rw same (community-is g p q d s hd) in
+          let (d, hd, is) = group-is g p q s crossing-positive v hv in
           let one : Agree n (groupOf g p q v) (F v) = groups-agree g p q ap aq last s crossing-positive oa v hv in
           let held : C w d ≡ true = child w v hw hv m d hd (sym (one d hd) ∙ is .holds) in
           let X = community g r t d in
