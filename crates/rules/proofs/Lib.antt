@@ -17,6 +17,8 @@
 --     DistinctLaws  the number of distinct labels: of devices that are their own label
 --     Divides       a lower rate never divides a group of a higher one
 --     Instance      the communities at a rate are such a family; the laws of groups for all positive fractions
+--     LevelLaws     two group lists of one plant, and their numbers of groups
+--     CrossingLaws  the rate that the search between two levels finds
 --     Sweep         the groups by going through the devices once
 pub mod Figures
 pub mod RefusalLaws
@@ -37,3 +39,5 @@ pub mod Divides
 pub mod Sweep
 pub mod Instance
 pub mod Statements
+pub mod LevelLaws
+pub mod CrossingLaws
