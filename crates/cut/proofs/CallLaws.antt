@@ -27,7 +27,7 @@ use Rattle.rules.specs.Lists.{over}
 use Rattle.cut.specs.Calls.{marksOf, communityFault, communityAnswer, communityMarks, fenceOf, wantedIn, ownersFault, ownersOf, ownersAfter}
 use Rattle.cut.proofs.CheckLaws.{at}
 use Rattle.rules.proofs.FillLaws.{over-agree, over-front, over-size, over-over}
-use Rattle.cut.proofs.RoomLaws.{marks-size, marks-out}
+use Rattle.cut.proofs.SpareLaws.{marks-size, marks-out}
 
 -- a plant with number 0 is accepted
 pub plant-accepted : (n : ℕ) (xs ys zs : List ℕ) (r : Refusal) → r ≡ plantFault n xs ys zs → r .number ≡ 0 → Accepted n xs ys zs

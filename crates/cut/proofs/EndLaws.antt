@@ -1,4 +1,4 @@
--- The ends of a line: whether a device is one, the other end, and the room out of it.
+-- The ends of a line: whether a device is one, the other end, and the spare out of it.
 -- Assumes nothing.
 use Prim.Native.Nat.{ℕ}
 use mathlib.Core.Path.{_≡_, sym, _∙_}
@@ -9,7 +9,7 @@ use native.Mathlib.Decide.{ℕ-discrete}
 use borrow.Author.Tests.{eq-eqb, ne-eqb, eqb-true}
 use lib.Dec.{eqb}
 use lib.ListN.{getD}
-use Rattle.cut.specs.Search.{touches, farEnd, roomFrom}
+use Rattle.cut.specs.Search.{touches, farEnd, spareFrom}
 
 -- whether a device is an end of line l
 module _ (xs ys : List ℕ) (l v : ℕ) where
@@ -40,12 +40,12 @@ module _ (xs ys : List ℕ) (l u : ℕ) where
   unfolding farEnd
   far-second h = rw (ne-eqb _ _ h)
 
--- the room of line l out of u
+-- the spare of line l out of u
 module _ (xs fs rs : List ℕ) (l u : ℕ) where
-  pub room-first : getD xs l 0 ≡ u → roomFrom xs fs rs l u ≡ getD fs l 0
-  unfolding roomFrom
-  room-first e = rw (eq-eqb _ _ e)
+  pub spare-first : getD xs l 0 ≡ u → spareFrom xs fs rs l u ≡ getD fs l 0
+  unfolding spareFrom
+  spare-first e = rw (eq-eqb _ _ e)
 
-  pub room-second : (getD xs l 0 ≡ u → ⊥) → roomFrom xs fs rs l u ≡ getD rs l 0
-  unfolding roomFrom
-  room-second h = rw (ne-eqb _ _ h)
+  pub spare-second : (getD xs l 0 ≡ u → ⊥) → spareFrom xs fs rs l u ≡ getD rs l 0
+  unfolding spareFrom
+  spare-second h = rw (ne-eqb _ _ h)

@@ -1,11 +1,11 @@
 -- The cut search from its first numbers to its last: the lists that it fills, the way that it takes, and its loop.
 --     Opened, opened-start, -step     a list whose first entries are opened, each by a rule
---     LineOpen, DrainOpen, drain-..   the rules of a line's room and of a device's drain at the start
+--     LineOpen, DrainOpen, drain-..   the rules of a line's spare and of a device's drain at the start
 --     fence-in, -out                  a device is inside the fence or outside, by its entry in the list
 --     laid-accepted                   the lists of an accepted plant are laid as the search needs them
 --     led-..                          what a search that found a device leaves to do, and what it changes
 --     Sending                         the loop: what is still to go, and what the last search came to
---     rooms-.., sent-.., scan-..      of an accepted plant: the start, how large the numbers get, and the marks at the end
+--     spares-.., sent-.., scan-..      of an accepted plant: the start, how large the numbers get, and the marks at the end
 -- Assumes nothing.
 use Prim.Native.Nat.{ℕ, _+_, _-_, _*_, _^_, _≤_, _<_}
 use mathlib.Core.Path.{_≡_, refl, sym, _∙_}
@@ -22,10 +22,10 @@ use Rattle.rules.specs.Community.{communityIn}
 use Rattle.rules.specs.Refusals.{Accepted}
 use Rattle.rules.proofs.RefusalLaws.{accepted-sound}
 use Rattle.cut.specs.Calls.{fenceOf}
-use Rattle.cut.specs.Search.{Laid, Way, Found, Scan, Led, Sent, Rooms}
+use Rattle.cut.specs.Search.{Laid, Way, Found, Scan, Led, Sent, Spares}
 use Rattle.rules.proofs.RangeLaws.{InRange}
 use Rattle.cut.proofs.ReachLaws.{count-most}
-use Rattle.cut.proofs.RoomLaws.{rooms-start, rooms-sent-inside, rooms-sent-outside, rooms-limit, room-most, cost-most, nodes-below, rooms-marks}
+use Rattle.cut.proofs.SpareLaws.{spares-start, spares-sent-inside, spares-sent-outside, spares-limit, spare-most, cost-most, nodes-below, spares-marks}
 
 -- the entries below k are opened by the rule P
 pub record Opened (P : ℕ → ℕ → Type 0) (size : ℕ) (list : List ℕ) (k : ℕ) : Type 0 where
@@ -83,7 +83,7 @@ pub led-found : {xs ys fs rs ws : List ℕ} {d : ℕ} {nodes vias froms marks : 
     → Found xs ys fs rs ws d nodes vias froms marks count → Led xs ys fs rs ws d nodes vias froms count
 led-found found = record {
   way = found .tree .way;
-  roomy = found .tree .roomy;
+  passable = found .tree .passable;
   some = found .tree .some;
   most = count-most (found .tree);
   root = found .tree .root;
@@ -102,21 +102,21 @@ module _ {xs ys fs rs ws : List ℕ} {d : ℕ} {nodes vias froms : List ℕ} {co
   -- what went along it: the drain of a device inside the fence falls by as much, and that of one outside stays
   module _ {fence : List ℕ} {δ : ℕ} {fs′ rs′ : List ℕ} (gone : Sent xs ys (getD nodes 0 0) (getD nodes (count - 1) 0) δ fs rs fs′ rs′)
       {n : ℕ} {zs : List ℕ} {p q sent : ℕ} (below : (j : ℕ) → j < count → getD nodes j 0 < n)
-      (rooms : Rooms n xs ys zs p q fence d fs rs ws sent) where
+      (spares : Spares n xs ys zs p q fence d fs rs ws sent) where
     gone-d : Sent xs ys d (getD nodes (count - 1) 0) δ fs rs fs′ rs′
     gone-d = rw (led .root) at gone
 
     pub led-inside : getD fence (getD nodes (count - 1) 0) 0 ≡ getD fence d 0 → getD nodes (count - 1) 0 < length ws → δ ≤ getD ws (getD nodes (count - 1) 0) 0
-        → Rooms n xs ys zs p q fence d fs′ rs′ (set ws (getD nodes (count - 1) 0) (getD ws (getD nodes (count - 1) 0) 0 - δ)) (sent + δ)
-    led-inside e b m = rooms-sent-inside rooms gone-d (below (count - 1) (omega (arith, led .some))) (fence-in fence d _ e) b m
+        → Spares n xs ys zs p q fence d fs′ rs′ (set ws (getD nodes (count - 1) 0) (getD ws (getD nodes (count - 1) 0) 0 - δ)) (sent + δ)
+    led-inside e b m = spares-sent-inside spares gone-d (below (count - 1) (omega (arith, led .some))) (fence-in fence d _ e) b m
 
-    pub led-outside : (getD fence (getD nodes (count - 1) 0) 0 ≡ getD fence d 0 → ⊥) → Rooms n xs ys zs p q fence d fs′ rs′ ws (sent + δ)
-    led-outside h = rooms-sent-outside rooms gone-d (below (count - 1) (omega (arith, led .some))) (fence-out fence d _ h)
+    pub led-outside : (getD fence (getD nodes (count - 1) 0) 0 ≡ getD fence d 0 → ⊥) → Spares n xs ys zs p q fence d fs′ rs′ ws (sent + δ)
+    led-outside h = spares-sent-outside spares gone-d (below (count - 1) (omega (arith, led .some))) (fence-out fence d _ h)
 
 -- the loop: what is still to go, and what the last search from d came to
 pub record Sending (n : ℕ) (xs ys zs : List ℕ) (p q : ℕ) (fence : List ℕ) (d : ℕ) (fs rs ws nodes vias froms marks : List ℕ) (sent : ℕ) (found : Bool) (count : ℕ) : Type 0 where
   pub drains : length ws ≡ 128
-  pub rooms : Rooms n xs ys zs p q fence d fs rs ws sent
+  pub spares : Spares n xs ys zs p q fence d fs rs ws sent
   pub more : found ≡ true → Found xs ys fs rs ws d nodes vias froms marks count
   pub none : found ≡ false → Scan xs ys fs rs ws d nodes vias froms marks count count (length xs)
 
@@ -126,22 +126,22 @@ module _ {n : ℕ} {xs ys zs : List ℕ} {d : ℕ} (accepted : Accepted n xs ys 
   led-below led = nodes-below n (led .way) (rw (led .root) device) (accepted .first-device) (accepted .second-device)
 
   module _ {p q : ℕ} {fence fs rs ws : List ℕ} where
-    pub rooms-opened : ((l : ℕ) → l < length zs → LineOpen zs q l (getD fs l 0)) → ((l : ℕ) → l < length zs → LineOpen zs q l (getD rs l 0))
+    pub spares-opened : ((l : ℕ) → l < length zs → LineOpen zs q l (getD fs l 0)) → ((l : ℕ) → l < length zs → LineOpen zs q l (getD rs l 0))
         → ((v : ℕ) → v < n → fenceOf fence d v ≡ true → getD ws v 0 ≡ p) → ((v : ℕ) → v < n → fenceOf fence d v ≡ false → 1 ≤ getD ws v 0)
-        → Rooms n xs ys zs p q fence d fs rs ws 0
-    rooms-opened forth back inside outside =
+        → Spares n xs ys zs p q fence d fs rs ws 0
+    spares-opened forth back inside outside =
         let one : length xs ≡ length zs = accepted .one-length ∙ accepted .one-length′ in
-        rooms-start n xs ys zs p q fence d fs rs ws (accepted .one-length) (accepted .one-length′) (λ l b. forth l (omega arith)) (λ l b. back l (omega arith)) inside outside
+        spares-start n xs ys zs p q fence d fs rs ws (accepted .one-length) (accepted .one-length′) (λ l b. forth l (omega arith)) (λ l b. back l (omega arith)) inside outside
 
-    module _ {sent : ℕ} (rooms : Rooms n xs ys zs p q fence d fs rs ws sent) where
-      pub rooms-small : InRange p q → (l : ℕ) → l < length xs → getD fs l 0 + getD rs l 0 < 2 ^ 63
-      rooms-small range l b = omega (arith, room-most l rooms (range .q-most) b (accepted .most-signals l b))
+    module _ {sent : ℕ} (spares : Spares n xs ys zs p q fence d fs rs ws sent) where
+      pub spares-small : InRange p q → (l : ℕ) → l < length xs → getD fs l 0 + getD rs l 0 < 2 ^ 63
+      spares-small range l b = omega (arith, spare-most l spares (range .q-most) b (accepted .most-signals l b))
 
       pub sent-small : InRange p q → sent ≤ 79907840000
       sent-small range =
-          le-trans (rooms-limit rooms)
+          le-trans (spares-limit spares)
           (cost-most n xs ys zs p q _ (accepted .one-length) (accepted .one-length′) (accepted .most-lines) (accepted .most-signals) (range .p-most) (range .q-most) (accepted .most-devices))
 
       pub scan-marks : {nodes vias froms marks : List ℕ} {count : ℕ} → Scan xs ys fs rs ws d nodes vias froms marks count count (length xs)
           → (v : ℕ) → v < n → getD marks v 0 ≡ cond (communityIn (plantOf n xs ys zs) p q (fenceOf fence d) d v) 1 0
-      scan-marks scan = rooms-marks (laid-accepted accepted) (accepted .most-devices) rooms scan (accepted-sound n xs ys zs accepted) device
+      scan-marks scan = spares-marks (laid-accepted accepted) (accepted .most-devices) spares scan (accepted-sound n xs ys zs accepted) device

@@ -10,7 +10,7 @@
 --     SumLoop     a loop that adds up
 --     Determined  two results that a public contract allows are equal
 --     CallLaws    the public calls: first fault, answer and lent lists, refused and accepted
---     RoomLaws    what each set costs is what has been sent and what can still leave it: at the start, after a path, at the end
+--     SpareLaws    what each set costs is what has been sent and what can still leave it: at the start, after a path, at the end
 pub mod RateLaws
 pub mod CheckLaws
 pub mod SumLaws
@@ -18,7 +18,7 @@ pub mod EndLaws
 pub mod IndexLaws
 pub mod ReachLaws
 pub mod PathLaws
-pub mod RoomLaws
+pub mod SpareLaws
 pub mod LeastLaws
 pub mod SumLoop
 pub mod CallLaws

@@ -2,9 +2,9 @@
 --     far-two                           the far ends of two devices of one line
 --     over-sent                         what goes over one line out of one of its ends has gone to the other end
 --     sent-none, sent-on                nothing has gone from a device to itself; what went on to a place went on from the place before
---     clear-room, clear-rest            the last line of a way with room left, and the way before it
+--     clear-spare, clear-rest            the last line of a way with something to spare, and the way before it
 --     clear-kept                        what goes over the last line of a way leaves the way before it as clear as it was
---     Narrow, narrow-start, -step, -end    the least room on the way, found from its end back to place 0
+--     Narrow, narrow-start, -step, -end    the least spare on the way, found from its end back to place 0
 --     Going, going-start, -step, -end      what has gone over the lines of the way, from its end back to place 0
 -- Assumes nothing.
 use Prim.Native.Nat.{ℕ, zero, suc, _+_, _-_, _≤_, _<_}
@@ -21,7 +21,7 @@ use lib.ListN.{length, getD}
 use lib.Seq.{getD-set-same, getD-set-other}
 use Rattle.cut.proofs.SumLaws.{sum-change}
 use Rattle.cut.proofs.EndLaws.{touches-other, far-first, far-second}
-use Rattle.cut.specs.Search.{sum, passing, linesLeave, roomFrom, farEnd, touches, Way, Clear, start, onward, forthAfter, backAfter, Sent}
+use Rattle.cut.specs.Search.{sum, passing, linesLeave, spareFrom, farEnd, touches, Way, Clear, start, onward, forthAfter, backAfter, Sent}
 use Rattle.rules.specs.Cut.{Devices}
 
 -- of two devices that a line touches, the far ends are the same, or the second is the far end of the first
@@ -75,13 +75,13 @@ module _ (xs fs rs : List ℕ) (l u δ : ℕ) where
     unfolding backAfter
     back-other = getD-set-other rs l k (cond (eqb (getD xs l 0) u) (getD rs l 0 + δ) (getD rs l 0 - δ)) 0 h
 
-    pub room-other : (v : ℕ) → roomFrom xs (forthAfter xs fs l u δ) (backAfter xs rs l u δ) k v ≡ roomFrom xs fs rs k v
-    unfolding roomFrom
-    room-other v = rw (forth-other, back-other)
+    pub spare-other : (v : ℕ) → spareFrom xs (forthAfter xs fs l u δ) (backAfter xs rs l u δ) k v ≡ spareFrom xs fs rs k v
+    unfolding spareFrom
+    spare-other v = rw (forth-other, back-other)
 
-  pub over-sent : (ys : List ℕ) → l < length xs → l < length fs → l < length rs → touches xs ys l u ≡ true → δ ≤ roomFrom xs fs rs l u
+  pub over-sent : (ys : List ℕ) → l < length xs → l < length fs → l < length rs → touches xs ys l u ≡ true → δ ≤ spareFrom xs fs rs l u
       → Sent xs ys u (farEnd xs ys l u) δ fs rs (forthAfter xs fs l u δ) (backAfter xs rs l u δ)
-  unfolding roomFrom linesLeave
+  unfolding spareFrom linesLeave
   over-sent ys b p q t h = record { kept = λ k c. both k (ℕ-discrete k l); moved = leaves }
     where
       both : (k : ℕ) → Dec (k ≡ l) → getD (forthAfter xs fs l u δ) k 0 + getD (backAfter xs rs l u δ) k 0 ≡ getD fs k 0 + getD rs k 0
@@ -118,9 +118,9 @@ module _ (xs ys : List ℕ) where
 
 -- the last line of a way that is clear, and the way before it
 module _ (xs fs rs nodes vias froms : List ℕ) (δ : ℕ) where
-  pub clear-room : {j : ℕ} → 1 ≤ j → Clear xs fs rs nodes vias froms δ j → δ ≤ roomFrom xs fs rs (getD vias j 0) (getD nodes (getD froms j 0) 0)
-  clear-room b start = absurd (omega arith)
-  clear-room b (onward p r rest) = r
+  pub clear-spare : {j : ℕ} → 1 ≤ j → Clear xs fs rs nodes vias froms δ j → δ ≤ spareFrom xs fs rs (getD vias j 0) (getD nodes (getD froms j 0) 0)
+  clear-spare b start = absurd (omega arith)
+  clear-spare b (onward p r rest) = r
 
   pub clear-rest : {j : ℕ} → 1 ≤ j → Clear xs fs rs nodes vias froms δ j → Clear xs fs rs nodes vias froms δ (getD froms j 0)
   clear-rest b start = absurd (omega arith)
@@ -142,7 +142,7 @@ module _ (xs ys nodes vias froms : List ℕ) (count : ℕ) (way : Way xs ys node
       → Clear xs (forthAfter xs fs (getD vias j 0) u δ) (backAfter xs rs (getD vias j 0) u δ) nodes vias froms δ i
   clear-kept fs rs u δ m start = start
   clear-kept fs rs u δ m (onward {j = i} p r rest) =
-      onward p (rw (room-other xs fs rs (getD vias j 0) u δ (getD vias i 0) (via-differ i p m) (getD nodes (getD froms i 0) 0)) r)
+      onward p (rw (spare-other xs fs rs (getD vias j 0) u δ (getD vias i 0) (via-differ i p m) (getD nodes (getD froms i 0) 0)) r)
       (clear-kept fs rs u δ (omega (arith, way .parent i p (omega arith))) rest)
 
 -- whatever is at most `most` and can go to place j can go to place `last`
@@ -157,7 +157,7 @@ module _ (xs fs rs nodes vias froms : List ℕ) (last limit : ℕ) where
   narrow-start h = record { some = h; capped = omega arith; within = omega arith; clear = λ δ b c. c }
 
   pub narrow-step : {most j : ℕ} (least : ℕ) → Narrow xs fs rs nodes vias froms last limit most j → 1 ≤ j → getD froms j 0 < j
-      → 1 ≤ least → least ≤ most → least ≤ roomFrom xs fs rs (getD vias j 0) (getD nodes (getD froms j 0) 0)
+      → 1 ≤ least → least ≤ most → least ≤ spareFrom xs fs rs (getD vias j 0) (getD nodes (getD froms j 0) 0)
       → Narrow xs fs rs nodes vias froms last limit least (getD froms j 0)
   narrow-step least n o p s m r = record {
     some = s;
@@ -203,5 +203,5 @@ module _ (xs ys fs₀ rs₀ nodes vias froms : List ℕ) (last δ : ℕ) where
         record {
           within = omega (arith, g .within);
           clear = clear-kept xs ys nodes vias froms (last + 1) way j going-below fs rs u δ m (clear-rest xs fs rs nodes vias froms δ o (g .clear));
-          sent = sent-on xs ys (g .sent) (rw (way .reaches j o going-below) at (over-sent xs fs rs l u δ ys b (omega arith) (omega arith) (way .leaves j o going-below) (clear-room xs fs rs nodes vias froms δ o (g .clear))));
+          sent = sent-on xs ys (g .sent) (rw (way .reaches j o going-below) at (over-sent xs fs rs l u δ ys b (omega arith) (omega arith) (way .leaves j o going-below) (clear-spare xs fs rs nodes vias froms δ o (g .clear))));
         }

@@ -12,7 +12,7 @@ use lib.Dec.{eqb}
 use lib.ListN.{length, getD, set, replicate, length-replicate, getD-replicate}
 use lib.Seq.{getD-set-same, getD-set-other}
 use Rattle.cut.proofs.SumLaws.{sum-most, sum-change, sum-one}
-use Rattle.cut.specs.Search.{sum, roomFrom, farEnd, touches, Laid, Before, Tree, Scan, Found}
+use Rattle.cut.specs.Search.{sum, spareFrom, farEnd, touches, Laid, Before, Tree, Scan, Found}
 
 -- the two sides of a question on numbers
 same-or-not : (i j : ℕ) → (i ≡ j) ⊎ (i ≡ j → ⊥)
@@ -65,7 +65,7 @@ module _ (xs ys fs rs : List ℕ) (d : ℕ) (nodes vias froms marks : List ℕ) 
       reaches = λ j m l. absurd (omega arith);
       once = λ i j l m e. omega arith;
     };
-    roomy = λ j m l. omega arith;
+    passable = λ j m l. omega arith;
     some = omega arith;
     root = root;
     device = λ j l. rw (first-only j l) device;
@@ -88,13 +88,13 @@ module _ (xs ys fs rs : List ℕ) (d : ℕ) (nodes vias froms marks : List ℕ) 
     found-begin h = record { tree = tree-begin; wet = λ j e. rw (first-only j (omega arith)) h }
 
 -- ---- a tree grows by a device
--- line l, which has room, leads from the device at place h to device w, which is not marked
+-- line l, which has something to spare, leads from the device at place h to device w, which is not marked
 pub record Leads (xs ys fs rs nodes marks : List ℕ) (count h l w : ℕ) : Type 0 where
   pub place : h < count
   pub line : l < length xs
   pub leaves : touches xs ys l (getD nodes h 0) ≡ true
   pub reaches : farEnd xs ys l (getD nodes h 0) ≡ w
-  pub room : 1 ≤ roomFrom xs fs rs l (getD nodes h 0)
+  pub spare : 1 ≤ spareFrom xs fs rs l (getD nodes h 0)
   pub new : getD marks w 0 ≡ 0
 
 -- a device at place j came by line v from place i, where device u stands
@@ -103,7 +103,7 @@ record Came (xs ys fs rs : List ℕ) (i v u w j : ℕ) : Type 0 where
   line : v < length xs
   leaves : touches xs ys v u ≡ true
   reaches : farEnd xs ys v u ≡ w
-  room : 1 ≤ roomFrom xs fs rs v u
+  spare : 1 ≤ spareFrom xs fs rs v u
 
 abbrev CameAt : List ℕ → List ℕ → List ℕ → List ℕ → List ℕ → List ℕ → List ℕ → ℕ → Type 0
 CameAt xs ys fs rs nodes vias froms j = Came xs ys fs rs (getD froms j 0) (getD vias j 0) (getD nodes (getD froms j 0) 0) (getD nodes j 0) j
@@ -145,11 +145,11 @@ module _ {xs ys fs rs : List ℕ} {d : ℕ} {nodes vias froms marks : List ℕ} 
     line = tree .way .line j m n;
     leaves = tree .way .leaves j m n;
     reaches = tree .way .reaches j m n;
-    room = tree .roomy j m n;
+    spare = tree .passable j m n;
   }
 
   came-last : Came xs ys fs rs h l (getD nodes h 0) w count
-  came-last = record { parent = leads .place; line = leads .line; leaves = leads .leaves; reaches = leads .reaches; room = leads .room }
+  came-last = record { parent = leads .place; line = leads .line; leaves = leads .leaves; reaches = leads .reaches; spare = leads .spare }
 
   module _ (node-size : length nodes ≡ 128) (via-size : length vias ≡ 128) (from-size : length froms ≡ 128) where
     came : (j : ℕ) → 1 ≤ j → j < count + 1 → CameAt xs ys fs rs (set nodes count w) (set vias count l) (set froms count h) j
@@ -194,7 +194,7 @@ module _ {xs ys fs rs : List ℕ} {d : ℕ} {nodes vias froms marks : List ℕ} 
         reaches = λ j m n. came j m n .reaches;
         once = alone;
       };
-      roomy = λ j m n. came j m n .room;
+      passable = λ j m n. came j m n .spare;
       some = omega arith;
       root = stays nodes w 0 (tree .some) ∙ tree .root;
       device = each (λ v. v < 128) (tree .device) new-device;
@@ -223,7 +223,7 @@ module _ {xs ys fs rs : List ℕ} {d : ℕ} {nodes vias froms marks : List ℕ} 
 -- ---- a scan goes on
 module _ {xs ys fs rs ws : List ℕ} {d : ℕ} {nodes vias froms marks : List ℕ} {count h : ℕ} where
   -- over line l, by which nothing new is reached
-  pub scan-same : (l : ℕ) → Scan xs ys fs rs ws d nodes vias froms marks count h (l + 1) → (1 ≤ roomFrom xs fs rs l (getD nodes h 0) → getD marks (farEnd xs ys l (getD nodes h 0)) 0 ≡ 1)
+  pub scan-same : (l : ℕ) → Scan xs ys fs rs ws d nodes vias froms marks count h (l + 1) → (1 ≤ spareFrom xs fs rs l (getD nodes h 0) → getD marks (farEnd xs ys l (getD nodes h 0)) 0 ≡ 1)
       → Scan xs ys fs rs ws d nodes vias froms marks count h l
   scan-same l scan old = record {
     tree = scan .tree;

@@ -33,8 +33,8 @@ unfoldable pub drainsLeave : ℕ → List ℕ → Devices → ℕ
 drainsLeave n ws S = sum n (λ v. cond (S v) (getD ws v 0) 0)
 
 -- what can still go over line l out of device u, where u is one of its ends, and its other end
-unfoldable pub roomFrom : List ℕ → List ℕ → List ℕ → ℕ → ℕ → ℕ
-roomFrom xs fs rs l u = cond (eqb (getD xs l 0) u) (getD fs l 0) (getD rs l 0)
+unfoldable pub spareFrom : List ℕ → List ℕ → List ℕ → ℕ → ℕ → ℕ
+spareFrom xs fs rs l u = cond (eqb (getD xs l 0) u) (getD fs l 0) (getD rs l 0)
 
 unfoldable pub farEnd : List ℕ → List ℕ → ℕ → ℕ → ℕ
 farEnd xs ys l u = cond (eqb (getD xs l 0) u) (getD ys l 0) (getD xs l 0)
@@ -73,14 +73,14 @@ pub record Way (xs ys nodes vias froms : List ℕ) (count : ℕ) : Type 0 where
   pub reaches : (j : ℕ) → 1 ≤ j → j < count → farEnd xs ys (getD vias j 0) (getD nodes (getD froms j 0) 0) ≡ getD nodes j 0
   pub once : (i j : ℕ) → i < count → j < count → getD nodes i 0 ≡ getD nodes j 0 → i ≡ j
 
--- each came over a line with room left
-abbrev pub Roomy : List ℕ → List ℕ → List ℕ → List ℕ → List ℕ → List ℕ → ℕ → Type 0
-Roomy xs fs rs nodes vias froms count = (j : ℕ) → 1 ≤ j → j < count → 1 ≤ roomFrom xs fs rs (getD vias j 0) (getD nodes (getD froms j 0) 0)
+-- each came over a line with something to spare
+abbrev pub Passable : List ℕ → List ℕ → List ℕ → List ℕ → List ℕ → List ℕ → ℕ → Type 0
+Passable xs fs rs nodes vias froms count = (j : ℕ) → 1 ≤ j → j < count → 1 ≤ spareFrom xs fs rs (getD vias j 0) (getD nodes (getD froms j 0) 0)
 
 -- the tree that a search from d has reached: the devices of the queue are those marked 1, and all others are marked 0
 pub record Tree (xs ys fs rs : List ℕ) (d : ℕ) (nodes vias froms marks : List ℕ) (count : ℕ) : Type 0 where
   pub way : Way xs ys nodes vias froms count
-  pub roomy : Roomy xs fs rs nodes vias froms count
+  pub passable : Passable xs fs rs nodes vias froms count
   pub some : 1 ≤ count
   pub root : getD nodes 0 0 ≡ d
   pub device : (j : ℕ) → j < count → getD nodes j 0 < 128
@@ -94,19 +94,19 @@ pub record Scan (xs ys fs rs ws : List ℕ) (d : ℕ) (nodes vias froms marks : 
   pub place : h ≤ count
   pub dry : (j : ℕ) → j < count → getD ws (getD nodes j 0) 0 ≡ 0
   pub shut : (j : ℕ) → j < h → (l : ℕ) → l < length xs → touches xs ys l (getD nodes j 0) ≡ true
-      → 1 ≤ roomFrom xs fs rs l (getD nodes j 0) → getD marks (farEnd xs ys l (getD nodes j 0)) 0 ≡ 1
+      → 1 ≤ spareFrom xs fs rs l (getD nodes j 0) → getD marks (farEnd xs ys l (getD nodes j 0)) 0 ≡ 1
   pub here : (l : ℕ) → k ≤ l → l < length xs → touches xs ys l (getD nodes h 0) ≡ true
-      → 1 ≤ roomFrom xs fs rs l (getD nodes h 0) → getD marks (farEnd xs ys l (getD nodes h 0)) 0 ≡ 1
+      → 1 ≤ spareFrom xs fs rs l (getD nodes h 0) → getD marks (farEnd xs ys l (getD nodes h 0)) 0 ≡ 1
 
 -- a search that found a device with drain left, the last in its queue
 pub record Found (xs ys fs rs ws : List ℕ) (d : ℕ) (nodes vias froms marks : List ℕ) (count : ℕ) : Type 0 where
   pub tree : Tree xs ys fs rs d nodes vias froms marks count
   pub wet : (j : ℕ) → count ≡ j + 1 → 1 ≤ getD ws (getD nodes j 0) 0
 
--- what a found device leaves to do: the way to it, the last in the queue, has room, and it has drain left
+-- what a found device leaves to do: the way to it, the last in the queue, has something to spare on every line, and it has drain left
 pub record Led (xs ys fs rs ws : List ℕ) (d : ℕ) (nodes vias froms : List ℕ) (count : ℕ) : Type 0 where
   pub way : Way xs ys nodes vias froms count
-  pub roomy : Roomy xs fs rs nodes vias froms count
+  pub passable : Passable xs fs rs nodes vias froms count
   pub some : 1 ≤ count
   pub most : count ≤ 128
   pub root : getD nodes 0 0 ≡ d
@@ -116,7 +116,7 @@ pub record Led (xs ys fs rs ws : List ℕ) (d : ℕ) (nodes vias froms : List �
 -- on the way back from place j to place 0 at least δ can go over each line
 pub data Clear (xs fs rs nodes vias froms : List ℕ) (δ : ℕ) : ℕ → Type 0 where
   start : Clear xs fs rs nodes vias froms δ 0
-  onward : {j : ℕ} → 1 ≤ j → δ ≤ roomFrom xs fs rs (getD vias j 0) (getD nodes (getD froms j 0) 0)
+  onward : {j : ℕ} → 1 ≤ j → δ ≤ spareFrom xs fs rs (getD vias j 0) (getD nodes (getD froms j 0) 0)
       → Clear xs fs rs nodes vias froms δ (getD froms j 0) → Clear xs fs rs nodes vias froms δ j
 
 -- forth and back of the lines after δ has gone over line l out of device u
@@ -132,7 +132,7 @@ pub record Sent (xs ys : List ℕ) (d e δ : ℕ) (fs rs fs′ rs′ : List ℕ)
   pub moved : (T : Devices) → linesLeave xs ys fs′ rs′ T + cond (T d) δ 0 ≡ linesLeave xs ys fs rs T + cond (T e) δ 0
 
 -- what is still to go and what has been sent: each set that holds d inside the fence costs what has been sent and what can still leave it; a device outside the fence never runs dry
-pub record Rooms (n : ℕ) (xs ys zs : List ℕ) (p q : ℕ) (fence : List ℕ) (d : ℕ) (fs rs ws : List ℕ) (sent : ℕ) : Type 0 where
+pub record Spares (n : ℕ) (xs ys zs : List ℕ) (p q : ℕ) (fence : List ℕ) (d : ℕ) (fs rs ws : List ℕ) (sent : ℕ) : Type 0 where
   pub whole : (l : ℕ) → l < length xs → getD fs l 0 + getD rs l 0 ≡ 2 * (q * getD zs l 0)
   pub outside : (v : ℕ) → v < n → fenceOf fence d v ≡ false → 1 ≤ getD ws v 0
   pub share : (T : Devices) → T d ≡ true → Inside n T (fenceOf fence d)

@@ -12,12 +12,12 @@ ghost use Rattle.rules.specs.Community.{communityIn};
 ghost use Rattle.rules.specs.Rates.{rateOk};
 ghost use Rattle.rules.specs.Refusals.{Accepted};
 ghost use Rattle.cut.specs.Calls.{fenceOf};
-ghost use Rattle.cut.specs.Search.{Laid, Lasts, Priors, Led, Rooms};
+ghost use Rattle.cut.specs.Search.{Laid, Lasts, Priors, Led, Spares};
 
 // What a device outside the fence can always take: more than any set of an accepted plant costs.
 const OPEN: usize = 1099511627776;
 
-// Each line has room for q times its signals, both ways.
+// Each line has q times its signals to spare, both ways.
 fn open_lines(signals: &[usize], q: usize, forth: &mut [usize], back: &mut [usize])
     requires { ⌜ (length (now signals) ≤ length (now forth)) × (length (now signals) ≤ length (now back)) × (q ≤ 1000) ⌝ }
     requires { ⌜ ((l : ℕ) → l < length (now signals) → getD (now signals) l 0 ≤ 65535) ⌝ }
@@ -26,9 +26,9 @@ fn open_lines(signals: &[usize], q: usize, forth: &mut [usize], back: &mut [usiz
 {
     let mut l = 0;
     while l < signals.len() {
-        let room = q * signals[l];
-        forth[l] = room;
-        back[l] = room;
+        let spare = q * signals[l];
+        forth[l] = spare;
+        back[l] = spare;
         l += 1;
     }
 }
@@ -72,8 +72,8 @@ fn advance(
     requires { ⌜ ((l : ℕ) → l < length (now firsts) → getD (now forth) l 0 + getD (now back) l 0 < 2 ^ 63) ⌝ }
     ensures { λ r. ⌜ 1 ≤ r ⌝ }
     ensures { λ r. ⌜ ((n : ℕ) (zs : List ℕ) (p q sent : ℕ) → ((j : ℕ) → j < count → getD (now (node .entry)) j 0 < n)
-        → Rooms n (now (firsts .entry)) (now (seconds .entry)) zs p q (now (fence .entry)) d (now (forth .entry)) (now (back .entry)) (now (drain .entry)) sent
-        → Rooms n (now (firsts .entry)) (now (seconds .entry)) zs p q (now (fence .entry)) d (now (forth .exit)) (now (back .exit)) (now (drain .exit)) (sent + r)) ⌝ }
+        → Spares n (now (firsts .entry)) (now (seconds .entry)) zs p q (now (fence .entry)) d (now (forth .entry)) (now (back .entry)) (now (drain .entry)) sent
+        → Spares n (now (firsts .entry)) (now (seconds .entry)) zs p q (now (fence .entry)) d (now (forth .exit)) (now (back .exit)) (now (drain .exit)) (sent + r)) ⌝ }
 {
     let end = count - 1;
     let v = node[end];

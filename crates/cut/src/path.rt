@@ -1,9 +1,9 @@
 // The way back from a place of the queue to place 0: how much can go along it, and sending that much.
-use crate::reach::room_from;
+use crate::reach::spare_from;
 ghost use lib.ListN.{length, getD};
 ghost use mathlib.Core.Path.{_≡_};
 ghost use Prim.Native.Nat.{ℕ, _+_, _≤_, _<_, _^_};
-ghost use Rattle.cut.specs.Search.{Laid, Way, Roomy, Clear, Sent, roomFrom, forthAfter, backAfter};
+ghost use Rattle.cut.specs.Search.{Laid, Way, Passable, Clear, Sent, spareFrom, forthAfter, backAfter};
 
 // The most that can go from place 0 to place `end`, and no more than `limit`.
 pub fn narrowest(
@@ -18,7 +18,7 @@ pub fn narrowest(
 ) -> usize
     requires { ⌜ (length (now firsts) ≤ 1024) × (end < 128) × (1 ≤ limit) ⌝ }
     requires { ⌜ ((j : ℕ) → 1 ≤ j → j < end + 1 → (getD (now from) j 0 < j) × (getD (now via) j 0 < length (now firsts))) ⌝ }
-    requires { ⌜ Roomy (now firsts) (now forth) (now back) (now node) (now via) (now from) (end + 1) ⌝ }
+    requires { ⌜ Passable (now firsts) (now forth) (now back) (now node) (now via) (now from) (end + 1) ⌝ }
     ensures { λ r. ⌜ (1 ≤ r) × (r ≤ limit) ⌝ }
     ensures { λ r. ⌜ Clear (now (firsts .entry)) (now (forth .entry)) (now (back .entry)) (now (node .entry)) (now (via .entry)) (now (from .entry)) r end ⌝ }
 {
@@ -26,9 +26,9 @@ pub fn narrowest(
     let mut j = end;
     while 0 < j {
         let i = from[j];
-        let room = room_from(firsts, forth, back, via[j], node[i]);
-        if room < most {
-            most = room;
+        let spare = spare_from(firsts, forth, back, via[j], node[i]);
+        if spare < most {
+            most = spare;
         }
         j = i;
     }
@@ -45,7 +45,7 @@ fn send_over(
     amount: usize,
 )
     requires { ⌜ (l < length (now firsts)) × (l < length (now forth)) × (l < length (now back)) ⌝ }
-    requires { ⌜ amount ≤ roomFrom (now firsts) (now forth) (now back) l u ⌝ }
+    requires { ⌜ amount ≤ spareFrom (now firsts) (now forth) (now back) l u ⌝ }
     requires { ⌜ getD (now forth) l 0 + getD (now back) l 0 < 2 ^ 63 ⌝ }
     ensures { λ _. ⌜ now (forth .exit) ≡ forthAfter (now (firsts .entry)) (now (forth .entry)) l u amount ⌝ }
     ensures { λ _. ⌜ now (back .exit) ≡ backAfter (now (firsts .entry)) (now (back .entry)) l u amount ⌝ }

@@ -1,4 +1,4 @@
-// The search: breadth first from a device over the lines with room left, until a device with drain left is found.
+// The search: breadth first from a device over the lines with something to spare, until a device with drain left is found.
 // The queue is `node`; `via` and `from` say of each place but 0 by which line and from which place its device was reached.
 use crate::index::line_before;
 ghost use lib.ListN.{length, getD, set};
@@ -6,7 +6,7 @@ ghost use mathlib.Core.Path.{_≡_};
 ghost use mathlib.Core.Bool.{true, false, cond};
 ghost use lib.Dec.{eqb};
 ghost use Prim.Native.Nat.{ℕ, _+_, _≤_, _<_};
-ghost use Rattle.cut.specs.Search.{Laid, Before, Lasts, Priors, Tree, Scan, Found, touches, farEnd, roomFrom};
+ghost use Rattle.cut.specs.Search.{Laid, Before, Lasts, Priors, Tree, Scan, Found, touches, farEnd, spareFrom};
 
 // How many devices stand in the queue, and whether the last of them has drain left.
 pub struct Front {
@@ -15,7 +15,7 @@ pub struct Front {
 }
 
 // What can still go over line l out of device u, one of its ends.
-pub fn room_from(
+pub fn spare_from(
     firsts: &[usize],
     forth: &[usize; 1024],
     back: &[usize; 1024],
@@ -23,7 +23,7 @@ pub fn room_from(
     u: usize,
 ) -> usize
     requires { ⌜ (l < length (now firsts)) × (length (now firsts) ≤ 1024) ⌝ }
-    ensures { λ r. ⌜ r ≡ roomFrom (now (firsts .entry)) (now (forth .entry)) (now (back .entry)) l u ⌝ }
+    ensures { λ r. ⌜ r ≡ spareFrom (now (firsts .entry)) (now (forth .entry)) (now (back .entry)) l u ⌝ }
 {
     if firsts[l] == u {
         return forth[l];
@@ -81,8 +81,8 @@ fn look(
     ensures { λ r. ⌜ (count ≤ r .count) × (getD (now (node .exit)) h 0 ≡ getD (now (node .entry)) h 0) ⌝ }
 {
     let u = node[h];
-    let room = room_from(firsts, forth, back, l, u);
-    if room == 0 {
+    let spare = spare_from(firsts, forth, back, l, u);
+    if spare == 0 {
         return Front {
             count,
             found: false,

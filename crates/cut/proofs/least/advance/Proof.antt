@@ -1,4 +1,4 @@
--- `cut::least::advance` meets its contract: the way that was found has room, and what goes along it leaves the last device's drain if that device is inside the fence.
+-- `cut::least::advance` meets its contract: the way that was found has something to spare, and what goes along it leaves the last device's drain if that device is inside the fence.
 -- Assumes nothing.
 use Prim.Native.Nat.{_-_, _<_}
 use native.Mathlib.Omega.{arith}
@@ -34,7 +34,7 @@ narrowest-requires : tie.Need-narrowest-requires
 narrowest-requires c κs =
     let s = c .before .before .before .before .before .before .before .before in
     let led = s .pre .1 .1 .0 in
-    ((s .pre .0 .few, omega (arith, led .some, led .most), led .wet _ (led-last led)), ((λ j h b. (led .way .parent j h (omega (arith, led .some)), led .way .line j h (omega (arith, led .some)))), (λ j h b. led .roomy j h (omega (arith, led .some)))))
+    ((s .pre .0 .few, omega (arith, led .some, led .most), led .wet _ (led-last led)), ((λ j h b. (led .way .parent j h (omega (arith, led .some)), led .way .line j h (omega (arith, led .some)))), (λ j h b. led .passable j h (omega (arith, led .some)))))
 
 send-requires : tie.Need-send-requires
 send-requires c κs =
@@ -67,10 +67,10 @@ same-length : tie.Need-same-length
 same-length c = search needs
 
 returns : tie.Need-returns
-returns c = (c .before .before .before .before .before .before .narrowest .ensures .0 .0, (λ n zs p q sent below rooms. led-inside (c .before .before .before .before .before .before .before .before .before .before .before .before .before .before .before .pre .1 .1 .0) (c .before .before .before .send .ensures) below rooms (c .if1 .taken) (omega (arith, end-below (c .before .before .before .before .before .before .before .before .before .before .before .before .before .before .before))) (c .before .before .before .before .before .before .narrowest .ensures .0 .1)))
+returns c = (c .before .before .before .before .before .before .narrowest .ensures .0 .0, (λ n zs p q sent below spares. led-inside (c .before .before .before .before .before .before .before .before .before .before .before .before .before .before .before .pre .1 .1 .0) (c .before .before .before .send .ensures) below spares (c .if1 .taken) (omega (arith, end-below (c .before .before .before .before .before .before .before .before .before .before .before .before .before .before .before))) (c .before .before .before .before .before .before .narrowest .ensures .0 .1)))
 
 returns-2 : tie.Need-returns-2
-returns-2 c = (c .before .before .before .before .before .before .narrowest .ensures .0 .0, (λ n zs p q sent below rooms. led-outside (c .before .before .before .before .before .before .before .before .before .before .before .before .before .before .before .pre .1 .1 .0) (c .before .before .before .send .ensures) below rooms (c .if1 .left)))
+returns-2 c = (c .before .before .before .before .before .before .narrowest .ensures .0 .0, (λ n zs p q sent below spares. led-outside (c .before .before .before .before .before .before .before .before .before .before .before .before .before .before .before .pre .1 .1 .0) (c .before .before .before .send .ensures) below spares (c .if1 .left)))
 
 pub advance-spec : {M : Type 1} → statement M
 advance-spec =

@@ -9,10 +9,10 @@ use lib.Dec.{eqb}
 use lib.ListN.{length}
 use Rattle.rules.specs.Plant.{plantOf}
 use Rattle.rules.specs.Cut.{cost}
-use Rattle.cut.specs.Search.{Laid, Lasts, Priors, Rooms}
+use Rattle.cut.specs.Search.{Laid, Lasts, Priors, Spares}
 use Rattle.rules.proofs.RangeLaws.{range-in}
-use Rattle.cut.proofs.RoomLaws.{rooms-limit}
-use Rattle.cut.proofs.LeastLaws.{laid-accepted, led-found, Sending, rooms-opened, rooms-small, sent-small, scan-marks, led-below}
+use Rattle.cut.proofs.SpareLaws.{spares-limit}
+use Rattle.cut.proofs.LeastLaws.{laid-accepted, led-found, Sending, spares-opened, spares-small, sent-small, scan-marks, led-below}
 use Rattle.cut.proofs.least.least.Statement.{statement}
 use Rattle.cut.proofs.least.least.Tie as tie
 
@@ -24,13 +24,13 @@ abbrev μ-loop : tie.MeasureT-loop
 μ-loop n firsts seconds signals p q fence d last before-first before-second mark₀ forth₀ back₀ drain₀ node₀ via₀ from₀ sent₀ front₀ mark forth back drain node via from sent front =
     cost (plantOf n firsts seconds signals) p q (λ v. eqb v d) - sent
 
--- the function's entry, from behind the first search, and the rooms at it
+-- the function's entry, from behind the first search, and the spares at it
 abbrev entry : tie.After-search Inv-loop μ-loop → tie.Start Inv-loop μ-loop
 entry c = c .before .before .before .before .before .before .before .before .before .before .before .before .before .before .before .before .before .before .before .before
 
-abbrev RoomsOf : tie.Start Inv-loop μ-loop → List ℕ → List ℕ → List ℕ → ℕ → Type 0
-RoomsOf s fs rs ws sent =
-    Rooms (s .args .n) (now (s .args .firsts)) (now (s .args .seconds)) (now (s .args .signals)) (s .args .p) (s .args .q) (now (s .args .fence)) (s .args .d) fs rs ws sent
+abbrev SparesOf : tie.Start Inv-loop μ-loop → List ℕ → List ℕ → List ℕ → ℕ → Type 0
+SparesOf s fs rs ws sent =
+    Spares (s .args .n) (now (s .args .firsts)) (now (s .args .seconds)) (now (s .args .signals)) (s .args .p) (s .args .q) (now (s .args .fence)) (s .args .d) fs rs ws sent
 
 slice-aggregate-open-lines : tie.Need-slice-aggregate-open-lines Inv-loop μ-loop
 slice-aggregate-open-lines c = refl
@@ -69,7 +69,7 @@ loop-holds c =
     let drains = c .before .before .before .before .before .before .before .before .before .open-drains .ensures in
     record {
       drains = c .before .before .before .before .before .before .before .before .before .open-drains .kept .1 .1 .1 .1 .0;
-      rooms = rooms-opened (s .pre .0) (s .pre .1 .0 .1) (lines .0) (lines .1) (drains .0) (drains .1);
+      spares = spares-opened (s .pre .0) (s .pre .1 .0 .1) (lines .0) (lines .1) (drains .0) (drains .1);
       more = c .search .ensures .1;
       none = c .search .ensures .0;
     }
@@ -82,14 +82,14 @@ advance-requires c κs =
     let s = entry (c .before .before .before .before .before .before .before .before) in
     let inv = c .before .before .before .before .before .before .before .loop .inv in
     let led = led-found (inv .more (c .before .before .before .before .before .before .loop-test .taken)) in
-    (laid-accepted (s .pre .0), (inv .drains, (led, ((omega (arith, s .pre .1 .0), (λ j b. omega (arith, s .pre .1 .0, led-below (s .pre .0) (s .pre .1 .0 .1) led j b))), rooms-small (s .pre .0) (s .pre .1 .0 .1) (inv .rooms) (range-in _ _ (s .pre .1 .0 .0))))))
+    (laid-accepted (s .pre .0), (inv .drains, (led, ((omega (arith, s .pre .1 .0), (λ j b. omega (arith, s .pre .1 .0, led-below (s .pre .0) (s .pre .1 .0 .1) led j b))), spares-small (s .pre .0) (s .pre .1 .0 .1) (inv .spares) (range-in _ _ (s .pre .1 .0 .0))))))
 
--- what the rooms are once the way that was found has been taken
-taken : (c : tie.After-advance Inv-loop μ-loop) → RoomsOf (entry (c .before .before .before .before .before .before .before .before .before)) (c .advance .last .1 .1 .1 .0) (c .advance .last .1 .1 .1 .1 .0) (c .advance .last .1 .1 .1 .1 .1 .0) (c .before .before .before .before .before .before .before .before .loop .sent + c .advance .result)
+-- what the spares are once the way that was found has been taken
+taken : (c : tie.After-advance Inv-loop μ-loop) → SparesOf (entry (c .before .before .before .before .before .before .before .before .before)) (c .advance .last .1 .1 .1 .0) (c .advance .last .1 .1 .1 .1 .0) (c .advance .last .1 .1 .1 .1 .1 .0) (c .before .before .before .before .before .before .before .before .loop .sent + c .advance .result)
 taken c =
     let s = entry (c .before .before .before .before .before .before .before .before .before) in
     let inv = c .before .before .before .before .before .before .before .before .loop .inv in
-    c .advance .ensures .1 _ _ _ _ _ (led-below (s .pre .0) (s .pre .1 .0 .1) (led-found (inv .more (c .before .before .before .before .before .before .before .loop-test .taken)))) (inv .rooms)
+    c .advance .ensures .1 _ _ _ _ _ (led-below (s .pre .0) (s .pre .1 .0 .1) (led-found (inv .more (c .before .before .before .before .before .before .before .loop-test .taken)))) (inv .spares)
 
 add-sent : tie.Need-add-sent Inv-loop μ-loop
 add-sent c =
@@ -100,12 +100,12 @@ search-requires-2 : tie.Need-search-requires-2 Inv-loop μ-loop
 search-requires-2 c κs = searchable (entry (c .before .before .before .before .before .before .before .before .before .before .before .before .before .before .before .before .before))
 
 loop-less : tie.Need-loop-less Inv-loop μ-loop
-loop-less c = omega (arith, rooms-limit (taken (c .before .before .before .before .before .before .before .before .before)), c .before .before .before .before .before .before .before .before .before .advance .ensures .0)
+loop-less c = omega (arith, spares-limit (taken (c .before .before .before .before .before .before .before .before .before)), c .before .before .before .before .before .before .before .before .before .advance .ensures .0)
 
 loop-again : tie.Need-loop-again Inv-loop μ-loop
 loop-again c = record {
   drains = c .before .before .before .before .before .before .before .before .before .advance .kept .1 .1 .1 .1 .1 .0 ∙ c .before .before .before .before .before .before .before .before .before .before .before .before .before .before .before .before .before .loop .inv .drains;
-  rooms = taken (c .before .before .before .before .before .before .before .before .before);
+  spares = taken (c .before .before .before .before .before .before .before .before .before);
   more = c .search2 .ensures .1;
   none = c .search2 .ensures .0;
 }
@@ -114,7 +114,7 @@ returns : tie.Need-returns Inv-loop μ-loop
 returns c =
     let s = entry (c .before .before) in
     let inv = c .before .loop .inv in
-    scan-marks (s .pre .0) (s .pre .1 .0 .1) (inv .rooms) (inv .none (c .loop-test .left))
+    scan-marks (s .pre .0) (s .pre .1 .0 .1) (inv .spares) (inv .none (c .loop-test .left))
 
 pub least-spec : {M : Type 1} → statement M
 least-spec =

@@ -1,4 +1,4 @@
--- `cut::least::open_lines` meets its contract. The loop's invariant: the lines below l have their room, both ways. The measure is the number of lines left.
+-- `cut::least::open_lines` meets its contract. The loop's invariant: the lines below l have their spare, both ways. The measure is the number of lines left.
 -- Assumes nothing.
 use Prim.Native.Nat.{_-_, _≤_}
 use native.Mathlib.Nat.{mul-le-mul}
@@ -18,14 +18,14 @@ abbrev μ-loop : tie.MeasureT-loop
 loop-holds : tie.Need-loop-holds Inv-loop μ-loop
 loop-holds c = (omega arith, opened-start _ _, opened-start _ _)
 
-mul-room : tie.Need-mul-room Inv-loop μ-loop
-mul-room c = omega arith
+mul-spare : tie.Need-mul-spare Inv-loop μ-loop
+mul-spare c = omega arith
 
-shared-slice-read-room : tie.Need-shared-slice-read-room Inv-loop μ-loop
-shared-slice-read-room c = omega arith
+shared-slice-read-spare : tie.Need-shared-slice-read-spare Inv-loop μ-loop
+shared-slice-read-spare c = omega arith
 
-mul-room-2 : tie.Need-mul-room-2 Inv-loop μ-loop
-mul-room-2 c = omega (arith, mul-le-mul (c .before .before .before .pre .0 .2) (c .before .before .before .pre .1 (c .before .before .loop .l) (c .before .loop-test .taken)))
+mul-spare-2 : tie.Need-mul-spare-2 Inv-loop μ-loop
+mul-spare-2 c = omega (arith, mul-le-mul (c .before .before .before .pre .0 .2) (c .before .before .before .pre .1 (c .before .before .loop .l) (c .before .loop-test .taken)))
 
 mul-forth : tie.Need-mul-forth Inv-loop μ-loop
 mul-forth c = omega arith
@@ -64,9 +64,9 @@ open-lines-spec =
     Inv-loop
     μ-loop
     loop-holds
-    mul-room
-    shared-slice-read-room
-    mul-room-2
+    mul-spare
+    shared-slice-read-spare
+    mul-spare-2
     mul-forth
     slice-write-forth
     mul-back

@@ -27,20 +27,20 @@ mul-i c = omega (arith, c .before .loop .inv .within, c .before .before .before 
 element-copy-out-i : tie.Need-element-copy-out-i Inv-loop μ-loop
 element-copy-out-i c = omega (arith, c .before .loop .inv .within, c .before .before .before .pre .0 .1)
 
-mul-room-from : tie.Need-mul-room-from Inv-loop μ-loop
-mul-room-from c = omega (arith, c .before .before .loop .inv .within, c .before .before .before .before .pre .0 .1)
+mul-spare-from : tie.Need-mul-spare-from Inv-loop μ-loop
+mul-spare-from c = omega (arith, c .before .before .loop .inv .within, c .before .before .before .before .pre .0 .1)
 
-element-copy-out-room-from : tie.Need-element-copy-out-room-from Inv-loop μ-loop
-element-copy-out-room-from c = omega (arith, c .before .before .loop .inv .within, c .before .before .before .before .pre .0 .1)
+element-copy-out-spare-from : tie.Need-element-copy-out-spare-from Inv-loop μ-loop
+element-copy-out-spare-from c = omega (arith, c .before .before .loop .inv .within, c .before .before .before .before .pre .0 .1)
 
-mul-room-from-2 : tie.Need-mul-room-from-2 Inv-loop μ-loop
-mul-room-from-2 c = omega (arith, c .before .before .before .loop .inv .within, c .before .before .before .before .before .pre .0 .1, back-one (c .before .before) .0)
+mul-spare-from-2 : tie.Need-mul-spare-from-2 Inv-loop μ-loop
+mul-spare-from-2 c = omega (arith, c .before .before .before .loop .inv .within, c .before .before .before .before .before .pre .0 .1, back-one (c .before .before) .0)
 
-element-copy-out-room-from-2 : tie.Need-element-copy-out-room-from-2 Inv-loop μ-loop
-element-copy-out-room-from-2 c = omega (arith, c .before .before .before .loop .inv .within, c .before .before .before .before .before .pre .0 .1, back-one (c .before .before) .0)
+element-copy-out-spare-from-2 : tie.Need-element-copy-out-spare-from-2 Inv-loop μ-loop
+element-copy-out-spare-from-2 c = omega (arith, c .before .before .before .loop .inv .within, c .before .before .before .before .before .pre .0 .1, back-one (c .before .before) .0)
 
-room-from-requires : tie.Need-room-from-requires Inv-loop μ-loop
-room-from-requires c κs = (back-one (c .before .before .before) .1, c .before .before .before .before .before .before .pre .0 .0)
+spare-from-requires : tie.Need-spare-from-requires Inv-loop μ-loop
+spare-from-requires c κs = (back-one (c .before .before .before) .1, c .before .before .before .before .before .before .pre .0 .0)
 
 loop-less : tie.Need-loop-less Inv-loop μ-loop
 loop-less c = back-one (c .before .before .before .before .before) .0
@@ -66,11 +66,11 @@ narrowest-spec =
     loop-holds
     mul-i
     element-copy-out-i
-    mul-room-from
-    element-copy-out-room-from
-    mul-room-from-2
-    element-copy-out-room-from-2
-    room-from-requires
+    mul-spare-from
+    element-copy-out-spare-from
+    mul-spare-from-2
+    element-copy-out-spare-from-2
+    spare-from-requires
     loop-less
     loop-again
     loop-less-2

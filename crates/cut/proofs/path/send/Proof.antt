@@ -4,7 +4,7 @@ use Prim.Native.Nat.{_+_, _<_}
 use native.Mathlib.Omega.{arith}
 use denote.Ref.{now}
 use lib.ListN.{length, getD}
-use Rattle.cut.proofs.PathLaws.{clear-room, Going, going-start, going-step, going-end}
+use Rattle.cut.proofs.PathLaws.{clear-spare, Going, going-start, going-step, going-end}
 use Rattle.cut.proofs.path.send.Statement.{statement}
 use Rattle.cut.proofs.path.send.Tie as tie
 
@@ -49,7 +49,7 @@ send-over-requires : tie.Need-send-over-requires Inv-loop μ-loop
 send-over-requires c κs =
     let g = c .before .before .before .before .before .before .loop .inv in
     let l = line (c .before .before .before .before .before) in
-    ((l, omega (arith, l, c .before .before .before .before .before .before .before .before .before .pre .0 .few, c .before .before .before .send-over-arg .given .0 .1), omega (arith, l, c .before .before .before .before .before .before .before .before .before .pre .0 .few, c .before .before .send-over-arg2 .given .0 .1)), (clear-room _ _ _ _ _ _ _ (c .before .before .before .before .before .loop-test .taken) (g .clear), rw (g .sent .kept _ l) (c .before .before .before .before .before .before .before .before .before .pre .1 .1 .1 .1 _ l)))
+    ((l, omega (arith, l, c .before .before .before .before .before .before .before .before .before .pre .0 .few, c .before .before .before .send-over-arg .given .0 .1), omega (arith, l, c .before .before .before .before .before .before .before .before .before .pre .0 .few, c .before .before .send-over-arg2 .given .0 .1)), (clear-spare _ _ _ _ _ _ _ (c .before .before .before .before .before .loop-test .taken) (g .clear), rw (g .sent .kept _ l) (c .before .before .before .before .before .before .before .before .before .pre .1 .1 .1 .1 _ l)))
 
 loop-less : tie.Need-loop-less Inv-loop μ-loop
 loop-less c = parent (c .before .before .before .before .before .before)

@@ -1,4 +1,4 @@
--- `cut::path::send_over` meets its contract: its test is the one of `forthAfter` and `backAfter`, and what goes is at most the room on that side.
+-- `cut::path::send_over` meets its contract: its test is the one of `forthAfter` and `backAfter`, and what goes is at most the spare on that side.
 -- Assumes nothing.
 use Prim.Native.Nat.{_≤_}
 use native.Mathlib.Omega.{arith}
@@ -6,17 +6,17 @@ use borrow.Author.Tests.{eq-eqb, ne-eqb}
 use denote.Ref.{now}
 use lib.ListN.{getD}
 use Rattle.cut.specs.Search.{forthAfter, backAfter}
-use Rattle.cut.proofs.EndLaws.{room-first, room-second}
+use Rattle.cut.proofs.EndLaws.{spare-first, spare-second}
 use borrow.Author.Needs.{needs}
 use Rattle.cut.proofs.path.send_over.Statement.{statement}
 use Rattle.cut.proofs.path.send_over.Tie as tie
 
--- what goes is at most the room on its side
+-- what goes is at most the spare on its side
 there : (c : tie.Then1) → c .before .before .before .before .args .amount ≤ getD (now (c .before .before .before .before .args .forth)) (c .before .before .before .before .args .l) 0
-there c = rw (room-first _ _ _ _ _ (c .if1 .taken)) at (c .before .before .before .before .pre .1 .0)
+there c = rw (spare-first _ _ _ _ _ (c .if1 .taken)) at (c .before .before .before .before .pre .1 .0)
 
 here : (c : tie.Else1) → c .before .before .before .before .args .amount ≤ getD (now (c .before .before .before .before .args .back)) (c .before .before .before .before .args .l) 0
-here c = rw (room-second _ _ _ _ _ (c .if1 .left)) at (c .before .before .before .before .pre .1 .0)
+here c = rw (spare-second _ _ _ _ _ (c .if1 .left)) at (c .before .before .before .before .pre .1 .0)
 
 mul-there : tie.Need-mul-there
 mul-there c = search needs

@@ -1,4 +1,4 @@
--- `cut::reach::look` meets its contract: a line with no room and a line to a marked device leave all as it was; any other adds the device that it leads to.
+-- `cut::reach::look` meets its contract: a line with nothing to spare and a line to a marked device leave all as it was; any other adds the device that it leads to.
 -- Assumes nothing.
 use mathlib.Core.Path.{refl, sym}
 use mathlib.Core.Bool.{true≢false, false≢true}
@@ -21,13 +21,13 @@ mul-u c = omega (arith, place (c .before .before))
 element-copy-out-u : tie.Need-element-copy-out-u
 element-copy-out-u c = place (c .before .before)
 
-room-from-requires : tie.Need-room-from-requires
-room-from-requires c κs = search needs
+spare-from-requires : tie.Need-spare-from-requires
+spare-from-requires c κs = search needs
 
 returns : tie.Need-returns
 returns c =
     let s = c .before .before .before .before .before in
-    ((λ e. scan-same (s .args .l) (s .pre .1 .1) (λ r. absurd (omega (arith, c .before .room-from .ensures, c .if1 .taken)))), ((λ e. absurd (false≢true e)), (omega arith, refl)))
+    ((λ e. scan-same (s .args .l) (s .pre .1 .1) (λ r. absurd (omega (arith, c .before .spare-from .ensures, c .if1 .taken)))), ((λ e. absurd (false≢true e)), (omega arith, refl)))
 
 far-end-requires : tie.Need-far-end-requires
 far-end-requires c κs = search needs
@@ -55,7 +55,7 @@ leads c =
       line = s .pre .1 .0 .1;
       leaves = s .pre .1 .0 .2;
       reaches = sym (c .before .before .far-end .ensures);
-      room = omega (arith, c .before .before .before .if1 .left, c .before .before .before .before .room-from .ensures);
+      spare = omega (arith, c .before .before .before .if1 .left, c .before .before .before .before .spare-from .ensures);
       new = c .if2 .left;
     }
 
@@ -106,7 +106,7 @@ look-spec =
     (tie.spec
     mul-u
     element-copy-out-u
-    room-from-requires
+    spare-from-requires
     returns
     far-end-requires
     element-copy-out-if2

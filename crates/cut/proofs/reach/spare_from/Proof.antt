@@ -1,10 +1,10 @@
--- `cut::reach::room_from` meets its contract: each way the result is what the definition's `cond` computes to.
+-- `cut::reach::spare_from` meets its contract: each way the result is what the definition's `cond` computes to.
 -- Assumes nothing.
 use borrow.Author.Tests.{eq-eqb, ne-eqb}
-use Rattle.cut.specs.Search.{roomFrom}
+use Rattle.cut.specs.Search.{spareFrom}
 use borrow.Author.Needs.{needs}
-use Rattle.cut.proofs.reach.room_from.Statement.{statement}
-use Rattle.cut.proofs.reach.room_from.Tie as tie
+use Rattle.cut.proofs.reach.spare_from.Statement.{statement}
+use Rattle.cut.proofs.reach.spare_from.Tie as tie
 
 mul-if1 : tie.Need-mul-if1
 mul-if1 c = search needs
@@ -19,7 +19,7 @@ element-copy-out-result : tie.Need-element-copy-out-result
 element-copy-out-result c = search needs
 
 returns : tie.Need-returns
-unfolding roomFrom
+unfolding spareFrom
 returns c = simp (eq-eqb _ _ (c .before .if1 .taken))
 
 mul-result-2 : tie.Need-mul-result-2
@@ -29,11 +29,11 @@ element-copy-out-result-2 : tie.Need-element-copy-out-result-2
 element-copy-out-result-2 c = search needs
 
 returns-2 : tie.Need-returns-2
-unfolding roomFrom
+unfolding spareFrom
 returns-2 c = simp (ne-eqb _ _ (c .before .if1 .left))
 
-pub room-from-spec : {M : Type 1} → statement M
-room-from-spec =
+pub spare-from-spec : {M : Type 1} → statement M
+spare-from-spec =
     tie.close
     (tie.spec
     mul-if1

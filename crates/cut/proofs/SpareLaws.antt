@@ -1,10 +1,10 @@
 -- The cut search in numbers: each set that holds the device inside its fence costs what has been sent and what can still leave it.
 --     sum-..                              laws of sums; out and size as sums
---     rooms-start, rooms-sent-..          so it is at the start, and so it stays when some is sent
---     rooms-limit, room-most, cost-most   how large the numbers get
+--     spares-start, spares-sent-..          so it is at the start, and so it stays when some is sent
+--     spares-limit, spare-most, cost-most   how large the numbers get
 --     marks-.., table-marks               size, out and list of a set that is given by marks
 --     way-all, nodes-below                what holds of every device in the queue
---     rooms-done, rooms-community         where nothing more can be sent, the marked devices are the community
+--     spares-done, spares-community         where nothing more can be sent, the marked devices are the community
 -- Assumes nothing.
 use Prim.Native.Nat.{ℕ, zero, suc, _+_, _-_, _*_, _≤_, _<_, zero-le, suc-le-suc}
 use mathlib.Core.Path.{_≡_, refl, sym, ap, ap₂, _∙_}
@@ -26,8 +26,8 @@ use Rattle.rules.proofs.Communities.{communityIn-only}
 use Rattle.rules.proofs.LabelLaws.{length-table, getD-table}
 use Rattle.cut.specs.Calls.{fenceOf}
 use Rattle.cut.proofs.SumLaws.{sum-agree, sum-most, sum-change, sum-zero, zero-sum, sum-scale, sum-front}
-use Rattle.cut.proofs.EndLaws.{touches-first, touches-second, far-first, far-second, room-first, room-second}
-use Rattle.cut.specs.Search.{sum, passing, linesLeave, drainsLeave, roomFrom, farEnd, touches, Laid, Way, Scan, Sent, Rooms}
+use Rattle.cut.proofs.EndLaws.{touches-first, touches-second, far-first, far-second, spare-first, spare-second}
+use Rattle.cut.specs.Search.{sum, passing, linesLeave, drainsLeave, spareFrom, farEnd, touches, Laid, Way, Scan, Sent, Spares}
 
 -- out and size as sums
 pub size-one : (g : Plant) (v : ℕ) → sizeAt g v ≡ 1
@@ -83,14 +83,14 @@ module _ (n : ℕ) (xs ys zs : List ℕ) (p q : ℕ) (fence : List ℕ) (d : ℕ
       one v b true e = rw (size-one, mul-one) (drain v b (i v b e))
       one v b false e = sym (mul-zero p)
 
-  pub rooms-start : length xs ≡ length ys → length ys ≡ length zs
+  pub spares-start : length xs ≡ length ys → length ys ≡ length zs
       → ((l : ℕ) → l < length xs → getD fs l 0 ≡ q * getD zs l 0)
       → ((l : ℕ) → l < length xs → getD rs l 0 ≡ q * getD zs l 0)
       → ((v : ℕ) → v < n → fenceOf fence d v ≡ true → getD ws v 0 ≡ p)
       → ((v : ℕ) → v < n → fenceOf fence d v ≡ false → 1 ≤ getD ws v 0)
-      → Rooms n xs ys zs p q fence d fs rs ws 0
+      → Spares n xs ys zs p q fence d fs rs ws 0
   unfolding cost plantOf
-  rooms-start e e′ forth back drain wet = record {
+  spares-start e e′ forth back drain wet = record {
     whole = λ l b. omega (arith, forth l b, back l b);
     outside = wet;
     share = λ T t i. omega (arith, start-lines e e′ forth back T, start-drains drain T i);
@@ -111,27 +111,27 @@ drains-after n ws e δ T b c l =
 
 -- δ has gone from d to e, and from there to the added vertex
 module _ {n : ℕ} {xs ys zs : List ℕ} {p q : ℕ} {fence : List ℕ} {d : ℕ} {fs rs ws : List ℕ} {sent e δ : ℕ} {fs′ rs′ : List ℕ}
-    (rooms : Rooms n xs ys zs p q fence d fs rs ws sent) (gone : Sent xs ys d e δ fs rs fs′ rs′) (b : e < n) where
-  rooms-sent : (ws′ : List ℕ)
+    (spares : Spares n xs ys zs p q fence d fs rs ws sent) (gone : Sent xs ys d e δ fs rs fs′ rs′) (b : e < n) where
+  spares-sent : (ws′ : List ℕ)
       → ((v : ℕ) → v < n → fenceOf fence d v ≡ false → 1 ≤ getD ws′ v 0)
       → ((T : Devices) → Inside n T (fenceOf fence d) → drainsLeave n ws′ T + cond (T e) δ 0 ≡ drainsLeave n ws T)
-      → Rooms n xs ys zs p q fence d fs′ rs′ ws′ (sent + δ)
-  rooms-sent ws′ wet drains = record {
-    whole = λ l h. gone .kept l h ∙ rooms .whole l h;
+      → Spares n xs ys zs p q fence d fs′ rs′ ws′ (sent + δ)
+  spares-sent ws′ wet drains = record {
+    whole = λ l h. gone .kept l h ∙ spares .whole l h;
     outside = wet;
-    share = λ T t i. omega (arith, rooms .share T t i, rw t at (gone .moved T), drains T i);
+    share = λ T t i. omega (arith, spares .share T t i, rw t at (gone .moved T), drains T i);
   }
 
-  pub rooms-sent-inside : fenceOf fence d e ≡ true → e < length ws → δ ≤ getD ws e 0
-      → Rooms n xs ys zs p q fence d fs′ rs′ (set ws e (getD ws e 0 - δ)) (sent + δ)
-  rooms-sent-inside i c l =
-      rooms-sent
+  pub spares-sent-inside : fenceOf fence d e ≡ true → e < length ws → δ ≤ getD ws e 0
+      → Spares n xs ys zs p q fence d fs′ rs′ (set ws e (getD ws e 0 - δ)) (sent + δ)
+  spares-sent-inside i c l =
+      spares-sent
       (set ws e (getD ws e 0 - δ))
-      (λ v h o. rw (getD-set-other ws e v (getD ws e 0 - δ) 0 (λ z. false≢true (sym o ∙ ap (fenceOf fence d) z ∙ i))) (rooms .outside v h o))
+      (λ v h o. rw (getD-set-other ws e v (getD ws e 0 - δ) 0 (λ z. false≢true (sym o ∙ ap (fenceOf fence d) z ∙ i))) (spares .outside v h o))
       (λ T h. drains-after n ws e δ T b c l)
 
-  pub rooms-sent-outside : fenceOf fence d e ≡ false → Rooms n xs ys zs p q fence d fs′ rs′ ws (sent + δ)
-  rooms-sent-outside o = rooms-sent ws (rooms .outside) (λ T h. at T h (T e) refl)
+  pub spares-sent-outside : fenceOf fence d e ≡ false → Spares n xs ys zs p q fence d fs′ rs′ ws (sent + δ)
+  spares-sent-outside o = spares-sent ws (spares .outside) (λ T h. at T h (T e) refl)
     where
       at : (T : Devices) → Inside n T (fenceOf fence d) → (t : Bool) → T e ≡ t → drainsLeave n ws T + cond t δ 0 ≡ drainsLeave n ws T
       at T h true m = absurd (false≢true (sym o ∙ h e b m))
@@ -142,14 +142,14 @@ pub own-fence : (fence : List ℕ) (d : ℕ) → fenceOf fence d d ≡ true
 unfolding fenceOf
 own-fence fence d = eq-eqb (getD fence d 0) (getD fence d 0) refl
 
-pub rooms-limit : {n : ℕ} {xs ys zs : List ℕ} {p q : ℕ} {fence : List ℕ} {d : ℕ} {fs rs ws : List ℕ} {sent : ℕ}
-    → Rooms n xs ys zs p q fence d fs rs ws sent → sent ≤ cost (plantOf n xs ys zs) p q (λ v. eqb v d)
-rooms-limit {fence = fence} {d = d} rooms =
-    omega (arith, rooms .share (λ v. eqb v d) (eq-eqb d d refl) (λ v b e. rw (eqb-true v d e) (own-fence fence d)))
+pub spares-limit : {n : ℕ} {xs ys zs : List ℕ} {p q : ℕ} {fence : List ℕ} {d : ℕ} {fs rs ws : List ℕ} {sent : ℕ}
+    → Spares n xs ys zs p q fence d fs rs ws sent → sent ≤ cost (plantOf n xs ys zs) p q (λ v. eqb v d)
+spares-limit {fence = fence} {d = d} spares =
+    omega (arith, spares .share (λ v. eqb v d) (eq-eqb d d refl) (λ v b e. rw (eqb-true v d e) (own-fence fence d)))
 
-pub room-most : {n : ℕ} {xs ys zs : List ℕ} {p q : ℕ} {fence : List ℕ} {d : ℕ} {fs rs ws : List ℕ} {sent : ℕ} (l : ℕ)
-    → Rooms n xs ys zs p q fence d fs rs ws sent → q ≤ 1000 → l < length xs → getD zs l 0 ≤ 65535 → getD fs l 0 + getD rs l 0 ≤ 131070000
-room-most l rooms h b z = omega (arith, rooms .whole l b, mul-le-mul h z)
+pub spare-most : {n : ℕ} {xs ys zs : List ℕ} {p q : ℕ} {fence : List ℕ} {d : ℕ} {fs rs ws : List ℕ} {sent : ℕ} (l : ℕ)
+    → Spares n xs ys zs p q fence d fs rs ws sent → q ≤ 1000 → l < length xs → getD zs l 0 ≤ 65535 → getD fs l 0 + getD rs l 0 ≤ 131070000
+spare-most l spares h b z = omega (arith, spares .whole l b, mul-le-mul h z)
 
 crossing-most : (s : ℕ) (a b : Bool) → crossing s a b ≤ s
 unfolding crossing
@@ -214,7 +214,7 @@ way-all {nodes = nodes} {froms = froms} {count = count} way P start step j b = g
         let before = way .parent (suc j) (suc-le-suc zero-le) b in
         step (suc j) (suc-le-suc zero-le) b (go m (getD froms (suc j) 0) (omega arith) (omega arith))
 
--- where nothing can leave a set over a line, its other end is in the set too, if there is room
+-- where nothing can leave a set over a line, its other end is in the set too, if there is something to spare
 pass-forth : (x y : Bool) (f r : ℕ) → passing x y f r ≡ 0 → x ≡ true → 1 ≤ f → y ≡ true
 unfolding passing
 pass-forth true true f r e x h = refl
@@ -229,8 +229,8 @@ pass-back false false f r e t h = absurd (false≢true t)
 
 line-kept : (xs ys fs rs : List ℕ) (l u : ℕ) (T : Devices)
     → passing (T (getD xs l 0)) (T (getD ys l 0)) (getD fs l 0) (getD rs l 0) ≡ 0
-    → touches xs ys l u ≡ true → 1 ≤ roomFrom xs fs rs l u → T u ≡ true → T (farEnd xs ys l u) ≡ true
-unfolding touches roomFrom farEnd
+    → touches xs ys l u ≡ true → 1 ≤ spareFrom xs fs rs l u → T u ≡ true → T (farEnd xs ys l u) ≡ true
+unfolding touches spareFrom farEnd
 line-kept xs ys fs rs l u T none t h m = go (eqb (getD xs l 0) u) refl t h
   where
     go : (s : Bool) → eqb (getD xs l 0) u ≡ s → (s || eqb (getD ys l 0) u) ≡ true → 1 ≤ cond s (getD fs l 0) (getD rs l 0)
@@ -268,7 +268,7 @@ marked marks v = eqb (getD marks v 0) 1
 -- a search that has gone through its whole queue and found no drain: the marked devices are the community
 module _ {n : ℕ} {xs ys zs : List ℕ} {p q : ℕ} {fence : List ℕ} {d : ℕ} {fs rs ws : List ℕ} {sent : ℕ} {nodes vias froms marks : List ℕ} {count : ℕ}
     (laid : Laid xs ys) (few : n ≤ 128)
-    (rooms : Rooms n xs ys zs p q fence d fs rs ws sent) (scan : Scan xs ys fs rs ws d nodes vias froms marks count count (length xs)) where
+    (spares : Spares n xs ys zs p q fence d fs rs ws sent) (scan : Scan xs ys fs rs ws d nodes vias froms marks count count (length xs)) where
   reached : (v : ℕ) → v < 128 → marked marks v ≡ true → (j : ℕ) × (j < count) × (getD nodes j 0 ≡ v)
   reached v b m = go (scan .tree .listed v b)
     where
@@ -276,11 +276,11 @@ module _ {n : ℕ} {xs ys zs : List ℕ} {p q : ℕ} {fence : List ℕ} {d : ℕ
       go (inl z) = absurd (omega (arith, eqb-true (getD marks v 0) 1 m))
       go (inr r) = r
 
-  onward : (l v : ℕ) → l < length xs → v < 128 → marked marks v ≡ true → touches xs ys l v ≡ true → 1 ≤ roomFrom xs fs rs l v
+  onward : (l v : ℕ) → l < length xs → v < 128 → marked marks v ≡ true → touches xs ys l v ≡ true → 1 ≤ spareFrom xs fs rs l v
       → marked marks (farEnd xs ys l v) ≡ true
   onward l v h b m t r =
       let at = reached v b m in
-      let far : touches xs ys l v ≡ true → 1 ≤ roomFrom xs fs rs l v → getD marks (farEnd xs ys l v) 0 ≡ 1 = rw (at .2) at (scan .shut (at .0) (at .1) l h) in
+      let far : touches xs ys l v ≡ true → 1 ≤ spareFrom xs fs rs l v → getD marks (farEnd xs ys l v) 0 ≡ 1 = rw (at .2) at (scan .shut (at .0) (at .1) l h) in
       eq-eqb (getD marks (farEnd xs ys l v) 0) 1 (far t r)
 
   lines-shut : linesLeave xs ys fs rs (marked marks) ≡ 0
@@ -288,12 +288,12 @@ module _ {n : ℕ} {xs ys zs : List ℕ} {p q : ℕ} {fence : List ℕ} {d : ℕ
   lines-shut = zero-sum (length xs) _ (λ l b. none-passing (marked marks (getD xs l 0)) (marked marks (getD ys l 0)) (getD fs l 0) (getD rs l 0) (forth l b) (back l b))
     where
       forth : (l : ℕ) → l < length xs → marked marks (getD xs l 0) ≡ true → 1 ≤ getD fs l 0 → marked marks (getD ys l 0) ≡ true
-      forth l b m h = rw (far-first xs ys l (getD xs l 0) refl) at (onward l (getD xs l 0) b (laid .first l b) m (touches-first xs ys l (getD xs l 0) refl) (rw (room-first xs fs rs l (getD xs l 0) refl) h))
+      forth l b m h = rw (far-first xs ys l (getD xs l 0) refl) at (onward l (getD xs l 0) b (laid .first l b) m (touches-first xs ys l (getD xs l 0) refl) (rw (spare-first xs fs rs l (getD xs l 0) refl) h))
 
       back : (l : ℕ) → l < length xs → marked marks (getD ys l 0) ≡ true → 1 ≤ getD rs l 0 → marked marks (getD xs l 0) ≡ true
       back l b m h =
           let differ : getD xs l 0 ≡ getD ys l 0 → ⊥ = λ e. omega (arith, laid .differ l b) in
-          rw (far-second xs ys l (getD ys l 0) differ) at (onward l (getD ys l 0) b (laid .second l b) m (touches-second xs ys l (getD ys l 0) refl) (rw (room-second xs fs rs l (getD ys l 0) differ) h))
+          rw (far-second xs ys l (getD ys l 0) differ) at (onward l (getD ys l 0) b (laid .second l b) m (touches-second xs ys l (getD ys l 0) refl) (rw (spare-second xs fs rs l (getD ys l 0) differ) h))
 
   marked-dry : (v : ℕ) → v < n → marked marks v ≡ true → getD ws v 0 ≡ 0
   marked-dry v b m =
@@ -313,13 +313,13 @@ module _ {n : ℕ} {xs ys zs : List ℕ} {p q : ℕ} {fence : List ℕ} {d : ℕ
     where
       go : (o : Bool) → fenceOf fence d v ≡ o → fenceOf fence d v ≡ true
       go true e = e
-      go false e = absurd (omega (arith, rooms .outside v b e, marked-dry v b m))
+      go false e = absurd (omega (arith, spares .outside v b e, marked-dry v b m))
 
   marked-root : marked marks d ≡ true
   marked-root = eq-eqb (getD marks d 0) 1 (rw (scan .tree .root) at (scan .tree .marked 0 (scan .tree .some)))
 
   marked-cost : cost (plantOf n xs ys zs) p q (marked marks) ≡ sent
-  marked-cost = omega (arith, rooms .share (marked marks) marked-root marked-inside, lines-shut, drains-shut)
+  marked-cost = omega (arith, spares .share (marked marks) marked-root marked-inside, lines-shut, drains-shut)
 
   -- a set that nothing can leave holds every marked device
   marked-least : (T : Devices) → T d ≡ true → linesLeave xs ys fs rs T ≡ 0 → Inside n (marked marks) T
@@ -332,24 +332,24 @@ module _ {n : ℕ} {xs ys zs : List ℕ} {p q : ℕ} {fence : List ℕ} {d : ℕ
       step j s b h =
           let way = scan .tree .way in
           rw (way .reaches j s b)
-          at (line-kept xs ys fs rs (getD vias j 0) (getD nodes (getD froms j 0) 0) T (sum-zero (length xs) _ none (getD vias j 0) (way .line j s b)) (way .leaves j s b) (scan .tree .roomy j s b) h)
+          at (line-kept xs ys fs rs (getD vias j 0) (getD nodes (getD froms j 0) 0) T (sum-zero (length xs) _ none (getD vias j 0) (way .line j s b)) (way .leaves j s b) (scan .tree .passable j s b) h)
 
-  pub rooms-done : IsCommunityIn (plantOf n xs ys zs) p q (fenceOf fence d) d (λ v. eqb (getD marks v 0) 1)
+  pub spares-done : IsCommunityIn (plantOf n xs ys zs) p q (fenceOf fence d) d (λ v. eqb (getD marks v 0) 1)
   unfolding plantOf
-  rooms-done = record {
+  spares-done = record {
     holds = marked-root;
     inside = marked-inside;
-    least = λ T t i. omega (arith, marked-cost, rooms .share T t i);
-    fewest = λ T t i l. size-inside (plantOf n xs ys zs) (marked marks) T (marked-least T t (omega (arith, marked-cost, rooms .share T t i)));
+    least = λ T t i. omega (arith, marked-cost, spares .share T t i);
+    fewest = λ T t i l. size-inside (plantOf n xs ys zs) (marked marks) T (marked-least T t (omega (arith, marked-cost, spares .share T t i)));
   }
 
   module _ (sound : Sound (plantOf n xs ys zs)) (device : d < n) where
-    pub rooms-community : (v : ℕ) → v < n → eqb (getD marks v 0) 1 ≡ communityIn (plantOf n xs ys zs) p q (fenceOf fence d) d v
+    pub spares-community : (v : ℕ) → v < n → eqb (getD marks v 0) 1 ≡ communityIn (plantOf n xs ys zs) p q (fenceOf fence d) d v
     unfolding plantOf
-    rooms-community v b = communityIn-only sound device rooms-done v b
+    spares-community v b = communityIn-only sound device spares-done v b
 
-    pub rooms-marks : (v : ℕ) → v < n → getD marks v 0 ≡ cond (communityIn (plantOf n xs ys zs) p q (fenceOf fence d) d v) 1 0
-    rooms-marks v b = rw (← rooms-community v b) (go (scan .tree .listed v (le-trans b few)))
+    pub spares-marks : (v : ℕ) → v < n → getD marks v 0 ≡ cond (communityIn (plantOf n xs ys zs) p q (fenceOf fence d) d v) 1 0
+    spares-marks v b = rw (← spares-community v b) (go (scan .tree .listed v (le-trans b few)))
       where
         go : (getD marks v 0 ≡ 0) ⊎ ((j : ℕ) × (j < count) × (getD nodes j 0 ≡ v)) → getD marks v 0 ≡ cond (eqb (getD marks v 0) 1) 1 0
         go (inl z) = rw z
