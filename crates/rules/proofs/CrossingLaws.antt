@@ -7,7 +7,7 @@
 use Prim.Native.Nat.{ℕ, _+_, _-_, _*_, _≤_, _<_}
 use mathlib.Core.Path.{_≡_, sym, ap, _∙_}
 use mathlib.Core.Bool.{true}
-use native.Mathlib.Nat.{mul-le-mul-left, mul-le-mul-right, le-of-mul-le-mul-left, le-of-mul-le-mul-right, lt-of-mul-lt-mul-right, sub-add-cancel, lt-of-not-le, le-of-suc-le-suc}
+use native.Mathlib.Nat.{mul-le-mul-left, mul-le-mul-right, le-of-mul-le-mul-left, le-of-mul-le-mul-right, lt-of-mul-lt-mul-right, sub-add-cancel, lt-of-not-le, le-of-suc-le-suc, mul-sub, one-le-mul}
 use native.Mathlib.Omega.{arith}
 use Rattle.rules.specs.Plant.{Plant, Sound}
 use Rattle.rules.specs.Cut.{Devices, Inside, Agree, out, size, cost}
@@ -35,12 +35,12 @@ crossing-agree {g} {F} {C} {F′} {C′} {p} {q} s f c x =
       at = x .at;
       device = x .device;
       grows = rw (← size-f (x .at) (x .device), ← size-c (x .at) (x .device)) (x .grows);
-      above = λ v h m.
+      above = λ v h m l.
           rw (← size-f v h, ← size-c (x .at) (x .device), ← out-f v h, ← out-c (x .at) (x .device))
-          (x .above v h (c (x .at) (x .device) v h ∙ m));
+          (x .above v h (c (x .at) (x .device) v h ∙ m) (rw (size-f v h, size-c (x .at) (x .device)) l));
       each = λ u h l.
-          let (v, hv, m, k) = x .each u h (rw (size-f u h, size-c u h) l) in
-          (v, hv, sym (c u h v hv) ∙ m, rw (← size-f v hv, ← size-c u h, ← out-f v hv, ← out-c u h) k);
+          let (v, hv, m, o, k) = x .each u h (rw (size-f u h, size-c u h) l) in
+          (v, hv, sym (c u h v hv) ∙ m, rw (← size-f v hv, ← size-c u h) o, rw (← size-f v hv, ← size-c u h, ← out-f v hv, ← out-c u h) k);
     }
   where
     size-f : (v : ℕ) → v < g .devices → size g (F v) ≡ size g (F′ v)
@@ -57,11 +57,11 @@ crossing-agree {g} {F} {C} {F′} {C′} {p} {q} s f c x =
 
 -- one fraction, one crossing
 module _ (p₀ q₀ p q : ℕ) (some : 1 ≤ q₀) (same : Same p₀ q₀ p q) where
-  reduce-below : (t u D : ℕ) → q₀ * t ≤ q₀ * u + p₀ * D → q * t ≤ q * u + p * D
-  reduce-below t u D h = le-of-mul-le-mul-left {k = q₀} (omega (arith, mul-le-mul-left q h, ap (λ (m : ℕ). m * D) same)) some
+  reduce-below : (t D : ℕ) → q₀ * t ≤ p₀ * D → q * t ≤ p * D
+  reduce-below t D h = le-of-mul-le-mul-left {k = q₀} (omega (arith, mul-le-mul-left q h, ap (λ (m : ℕ). m * D) same)) some
 
-  reduce-above : (t u D : ℕ) → q₀ * u + p₀ * D ≤ q₀ * t → q * u + p * D ≤ q * t
-  reduce-above t u D h = le-of-mul-le-mul-left {k = q₀} (omega (arith, mul-le-mul-left q h, ap (λ (m : ℕ). m * D) same)) some
+  reduce-above : (t D : ℕ) → p₀ * D ≤ q₀ * t → p * D ≤ q * t
+  reduce-above t D h = le-of-mul-le-mul-left {k = q₀} (omega (arith, mul-le-mul-left q h, ap (λ (m : ℕ). m * D) same)) some
 
   pub crossing-reduced : {g : Plant} {F C : ℕ → Devices} → Crossing g F C p₀ q₀ → Crossing g F C p q
   crossing-reduced {g} {F} {C} x =
@@ -69,10 +69,10 @@ module _ (p₀ q₀ p q : ℕ) (some : 1 ≤ q₀) (same : Same p₀ q₀ p q) w
         at = x .at;
         device = x .device;
         grows = x .grows;
-        above = λ v h m. reduce-below _ _ _ (x .above v h m);
+        above = λ v h m l. reduce-below _ _ (x .above v h m l);
         each = λ u h l.
-            let (v, hv, m, k) = x .each u h l in
-            (v, hv, m, reduce-above _ _ _ k);
+            let (v, hv, m, o, k) = x .each u h l in
+            (v, hv, m, o, reduce-above _ _ k);
       }
 
 -- the cost of T, by what it has over the size of S
@@ -169,15 +169,7 @@ module _ (g : Plant) (ap aq bp bq : ℕ) (s : Sound g) (oa : 1 ≤ ap) (ob : 1 �
     unfolding cost
     no-dearer v h m =
         let l = smaller (x .at) v (x .device) h (x .grows) m in
-        (l, omega (arith, x .above v h m, cost-gap g p q (F v) top (omega arith)))
-
-    no-cheaper : (w : ℕ) → w < n → size g (F w) < size g (C w)
-        → (v : ℕ) × (v < n) × (C w v ≡ true) × (size g (F v) < size g (C w)) × (cost g p q (C w) ≤ cost g p q (F v))
-    unfolding cost
-    no-cheaper w h k =
-        let (v, hv, m, e) = x .each w h k in
-        let l = smaller w v h hv k m in
-        (v, hv, m, l, omega (arith, cost-gap g p q (F v) (C w) (omega arith)))
+        (l, omega (arith, x .above v h m l, mul-sub q (out (g .lines) (F v)) (out (g .lines) top), cost-gap g p q (F v) top (omega arith)))
 
     pub crossing-over : Below bp bq p q
     crossing-over =
@@ -190,6 +182,14 @@ module _ (g : Plant) (ap aq bp bq : ℕ) (s : Sound g) (oa : 1 ≤ ap) (ob : 1 �
     -- so it is positive
     pub crossing-positive : 1 ≤ p
     crossing-positive = lt-of-mul-lt-mul-right bq (omega (arith, crossing-over))
+
+    no-cheaper : (w : ℕ) → w < n → size g (F w) < size g (C w)
+        → (v : ℕ) × (v < n) × (C w v ≡ true) × (size g (F v) < size g (C w)) × (cost g p q (C w) ≤ cost g p q (F v))
+    unfolding cost
+    no-cheaper w h k =
+        let (v, hv, m, l, e) = x .each w h k in
+        let some : 1 ≤ p * (size g (C w) - size g (F v)) = one-le-mul crossing-positive (omega arith) in
+        (v, hv, m, l, omega (arith, mul-sub q (out (g .lines) (F v)) (out (g .lines) (C w)), cost-gap g p q (F v) (C w) (omega arith)))
 
     pub crossing-not-above : p * aq ≤ ap * q
     crossing-not-above =
