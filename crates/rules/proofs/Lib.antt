@@ -10,12 +10,15 @@
 --     Rates         communities at two rates
 --     RangeLaws     the range test of a rate, bound by bound
 --     LowestLaws    a fraction has one form in lowest terms
+--     OrderLaws     the order of fractions by cross products
 --     Family        what the groups need of the communities
 --     GroupLaws     the group of a device
 --     LabelLaws     the lowest device of a set, the label of a device, a list by its entries
 --     DistinctLaws  the number of distinct labels: of devices that are their own label
 --     Divides       a lower rate never divides a group of a higher one
 --     Instance      the communities at a rate are such a family; the laws of groups for all positive fractions
+--     SameLaws      two rates with the same groups, and the rates between them
+--     EndLaws       the groups at the highest and at the lowest rates
 --     Sweep         the groups by going through the devices once
 pub mod Figures
 pub mod RefusalLaws
@@ -27,6 +30,7 @@ pub mod Bounds
 pub mod Rates
 pub mod RangeLaws
 pub mod LowestLaws
+pub mod OrderLaws
 pub mod Family
 pub mod GroupLaws
 pub mod LabelLaws
@@ -34,4 +38,6 @@ pub mod DistinctLaws
 pub mod Divides
 pub mod Sweep
 pub mod Instance
+pub mod SameLaws
+pub mod EndLaws
 pub mod Statements
