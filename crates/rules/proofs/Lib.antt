@@ -19,6 +19,7 @@
 --     Instance      the communities at a rate are such a family; the laws of groups for all positive fractions
 --     SameLaws      two rates with the same groups, and the rates between them
 --     EndLaws       the groups at the highest and at the lowest rates
+--     LadderLaws    levels between two rates: one breakpoint, two ladders joined, and the hierarchy from a whole ladder
 --     Sweep         the groups by going through the devices once
 pub mod Figures
 pub mod RefusalLaws
@@ -40,4 +41,5 @@ pub mod Sweep
 pub mod Instance
 pub mod SameLaws
 pub mod EndLaws
+pub mod LadderLaws
 pub mod Statements

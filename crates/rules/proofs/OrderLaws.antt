@@ -1,7 +1,16 @@
--- The order of fractions by cross products: it is transitive. Assumes nothing.
+-- The order of fractions by cross products: it is transitive. Beside it, that one of two numbers is not above the other. Assumes nothing.
 use Prim.Native.Nat.{ℕ, _*_, _≤_, _<_}
-use native.Mathlib.Nat.{le-of-mul-le-mul-left, lt-of-mul-lt-mul-left, mul-le-mul-left, mul-lt-mul-of-pos-left}
+use mathlib.Core.Logic.{_⊎_, inl, inr}
+use native.Mathlib.Decide.{decLe}
+use native.Mathlib.Nat.{lt-of-not-le, le-of-mul-le-mul-left, lt-of-mul-lt-mul-left, mul-le-mul-left, mul-lt-mul-of-pos-left}
 use native.Mathlib.Omega.{arith}
+
+pub le-or-below : (a b : ℕ) → (a ≤ b) ⊎ (b < a)
+le-or-below a b = go (decLe a b)
+  where
+    go : Dec (a ≤ b) → (a ≤ b) ⊎ (b < a)
+    go (yes h) = inl h
+    go (no h) = inr (lt-of-not-le h)
 
 -- p/q, then r/s, then u/v
 module _ (p q r s u v : ℕ) where
