@@ -1,27 +1,29 @@
--- Both ends of the rates. At a rate high enough every device is alone. At a rate low enough no line leaves a group.
+-- Both ends of the rates. At a rate high enough every device is alone. At a rate low enough no line leaves a group, and the groups are the connected parts of the plant.
 -- Assumes nothing.
 use Prim.Native.Nat.{ℕ, zero, suc, _+_, _-_, _*_, _≤_, _<_, zero-le, suc-le-suc}
 use mathlib.Core.Path.{_≡_, refl, sym, ap, _∙_}
-use mathlib.Core.Bool.{Bool, true, false, not, _&&_, cond, false≢true}
+use mathlib.Core.Bool.{Bool, true, false, not, _&&_, cond, true≢false, false≢true}
 use mathlib.Core.List.{List, [], _∷_}
 use mathlib.Core.Logic.{_⊎_, inl, inr, ⊎-elim, _↔_}
 use native.Mathlib.Nat.{le-refl, eq-or-lt-of-le, eq-zero-or-pos, mul-sub, mul-le-mul-left, le-of-mul-le-mul-left}
 use native.Mathlib.Omega.{arith}
 use lib.Dec.{ltb, eqb}
 use lib.ListN.{length, getD}
-use borrow.Author.Tests.{ltb-true, ltb-false, eqb-true, eqb-false, lt-ltb, le-ltb, eq-eqb}
+use borrow.Author.Tests.{ltb-true, ltb-false, eqb-true, eq-eqb, not-true}
 use Rattle.rules.specs.Plant.{Line, Plant, linesOf, plantOf, Sound}
 use Rattle.rules.specs.Cut.{Devices, crossing, out, sizeAt, sizeBelow, size, cost, Inside, Agree, minus}
 use Rattle.rules.specs.Community.{community, IsCommunity}
 use Rattle.rules.specs.Groups.{groupOf, lowest, table, label, groups}
 use Rattle.rules.specs.Refusals.{Accepted}
+use Rattle.rules.specs.Hierarchy.{Closed, Connected}
 use Rattle.rules.proofs.RefusalLaws.{accepted-sound}
 use Rattle.rules.proofs.SetLaws.{and-left, and-right, agree-both}
-use Rattle.rules.proofs.Sums.{meet, out-submodular, inside-equal, size-holds}
+use Rattle.rules.proofs.Sums.{meet, out-submodular, out-posimodular, inside-equal, size-holds}
 use Rattle.rules.proofs.Best.{community-is}
 use Rattle.rules.proofs.Bounds.{everyone-size, out-bound}
+use Rattle.rules.proofs.Family.{Family}
 use Rattle.rules.proofs.GroupLaws.{group-community, group-holds}
-use Rattle.rules.proofs.LabelLaws.{lowest-in, table-agree, label-from}
+use Rattle.rules.proofs.LabelLaws.{lowest-in, table-agree, label-from, label-same}
 use Rattle.rules.proofs.Instance.{family}
 use Rattle.rules.proofs.Divides.{group-coarser}
 use Rattle.rules.proofs.SameLaws.{groups-agree}
@@ -175,3 +177,80 @@ module _ (g : Plant) (s : Sound g) where
     where
       few : g .devices - 1 ≤ 127
       few = omega arith
+
+-- each line carries a signal
+unfoldable pub EachCarries : List Line → Type 0
+EachCarries [] = Unit {0}
+EachCarries (l ∷ ls) = (1 ≤ l .signals) × EachCarries ls
+
+lines-carry : (xs ys zs : List ℕ) → ((k : ℕ) → k < length xs → 1 ≤ getD zs k 0) → EachCarries (linesOf xs ys zs)
+unfolding linesOf EachCarries
+lines-carry [] ys zs h = tt
+lines-carry (x ∷ xs) [] zs h = tt
+lines-carry (x ∷ xs) (y ∷ ys) [] h = tt
+lines-carry (x ∷ xs) (y ∷ ys) (z ∷ zs) h = (h 0 (suc-le-suc zero-le), lines-carry xs ys zs (λ k l. h (suc k) (suc-le-suc l)))
+
+pub accepted-carries : (n : ℕ) (xs ys zs : List ℕ) → Accepted n xs ys zs → EachCarries (plantOf n xs ys zs .lines)
+unfolding plantOf
+accepted-carries n xs ys zs a = lines-carry xs ys zs (a .some-signal)
+
+crossing-none : (s : ℕ) (a b : Bool) → a ≡ b → crossing s a b ≡ 0
+unfolding crossing
+crossing-none s true true e = refl
+crossing-none s true false e = absurd (true≢false e)
+crossing-none s false true e = absurd (false≢true e)
+crossing-none s false false e = refl
+
+none-crossing : (s : ℕ) (a b : Bool) → 1 ≤ s → crossing s a b ≡ 0 → a ≡ b
+unfolding crossing
+none-crossing s true true o e = refl
+none-crossing s true false o e = absurd (omega arith)
+none-crossing s false true o e = absurd (omega arith)
+none-crossing s false false o e = refl
+
+-- no line leaves a set exactly if its out is 0
+pub closed-out : (ls : List Line) (S : Devices) → EachCarries ls → Closed ls S ↔ (out ls S ≡ 0)
+unfolding EachCarries Closed out
+closed-out [] S c = (λ h. refl, λ e. tt)
+closed-out (l ∷ ls) S c =
+    let rest = closed-out ls S (c .1) in (
+      λ h. omega (arith, crossing-none (l .signals) (S (l .first)) (S (l .second)) (h .0), rest .0 (h .1)),
+      λ e. (none-crossing (l .signals) (S (l .first)) (S (l .second)) (c .0) (omega arith), rest .1 (omega arith)),
+    )
+
+-- "its groups are the connected parts of the plant"
+module _ (g : Plant) (p q : ℕ) (s : Sound g) (carries : EachCarries (g .lines)) (o : 1 ≤ p) (low : Low g p q) where
+  -- a community that holds i and j lies on one side of each set that no line leaves
+  one-side : (d i j : ℕ) → d < g .devices → i < g .devices → j < g .devices → community g p q d i ≡ true → community g p q d j ≡ true
+      → (S : Devices) → out (g .lines) S ≡ 0 → S i ≡ true → S j ≡ true
+  one-side d i j hd hi hj mi mj S shut e = go (S d) refl
+    where
+      C : Devices
+      C = community g p q d
+
+      go : (b : Bool) → S d ≡ b → S j ≡ true
+      go true m = bottom-inside g p q d s o low hd S m shut j hj mj
+      go false m =
+          let apart : minus C S i ≡ true =
+          bottom-inside g p q d s o low hd (minus C S) (rw (community-is g p q d s hd .holds, m))
+          (omega (arith, out-posimodular (g .lines) C S, bottom-out g p q d s low hd)) i hi mi in
+          absurd (true≢false (sym e ∙ not-true (S i) (and-right (C i) (not (S i)) apart)))
+
+  pub bottom-connected : (i j : ℕ) → i < g .devices → j < g .devices → (label g p q i ≡ label g p q j) ↔ Connected g i j
+  unfolding Connected
+  bottom-connected i j hi hj = (forth, back)
+    where
+      fam : Family (g .devices) (size g) (community g p q)
+      fam = family g p q s o
+
+      forth : label g p q i ≡ label g p q j → (S : Devices) → Closed (g .lines) S → S i ≡ true → S j ≡ true
+      forth e S c =
+          let d = group-community g p q fam i hi in
+          one-side (d .0) i j (d .1) hi hj (rw (d .2) at (group-holds g p q fam i hi)) (rw (d .2) at (label-same g p q fam i j hi hj .0 e)) S
+          (closed-out (g .lines) S carries .0 c)
+
+      back : ((S : Devices) → Closed (g .lines) S → S i ≡ true → S j ≡ true) → label g p q i ≡ label g p q j
+      back c =
+          let d = group-community g p q fam i hi in
+          let shut : out (g .lines) (groupOf g p q i) ≡ 0 = rw (d .2) (bottom-out g p q (d .0) s low (d .1)) in
+          label-same g p q fam i j hi hj .1 (c (groupOf g p q i) (closed-out (g .lines) (groupOf g p q i) carries .1 shut) (group-holds g p q fam i hi))

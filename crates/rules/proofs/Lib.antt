@@ -20,6 +20,7 @@
 --     SameLaws      two rates with the same groups, and the rates between them
 --     EndLaws       the groups at the highest and at the lowest rates
 --     LadderLaws    levels between two rates: one breakpoint, two ladders joined, and the hierarchy from a whole ladder
+--     JoinLaws      the joining rate of two devices: the only one, and how it is found
 --     Sweep         the groups by going through the devices once
 pub mod Figures
 pub mod RefusalLaws
@@ -42,4 +43,5 @@ pub mod Instance
 pub mod SameLaws
 pub mod EndLaws
 pub mod LadderLaws
+pub mod JoinLaws
 pub mod Statements
