@@ -21,6 +21,7 @@
 --     EndLaws       the groups at the highest and at the lowest rates
 --     LadderLaws    levels between two rates: one breakpoint, two ladders joined, and the hierarchy from a whole ladder
 --     JoinLaws      the joining rate of two devices: the only one, and how it is found
+--     HierarchyLaws a plant has one hierarchy, and its levels are all groupings that occur
 --     Sweep         the groups by going through the devices once
 pub mod Figures
 pub mod RefusalLaws
@@ -44,4 +45,5 @@ pub mod SameLaws
 pub mod EndLaws
 pub mod LadderLaws
 pub mod JoinLaws
+pub mod HierarchyLaws
 pub mod Statements
