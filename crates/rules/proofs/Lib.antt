@@ -10,6 +10,7 @@
 --     Rates         communities at two rates
 --     RangeLaws     the range test of a rate, bound by bound
 --     LowestLaws    a fraction has one form in lowest terms
+--     OrderLaws     the order of fractions by cross products
 --     Family        what the groups need of the communities
 --     GroupLaws     the group of a device
 --     LabelLaws     the lowest device of a set, the label of a device, a list by its entries
@@ -19,6 +20,10 @@
 --     Instance      the communities at a rate are such a family; the laws of groups for all positive fractions
 --     LevelLaws     two group lists of one plant, and their numbers of groups
 --     CrossingLaws  the rate that the search between two levels finds
+--     EndLaws       the groups at the highest and at the lowest rates
+--     LadderLaws    levels between two rates: one breakpoint, two ladders joined, and the hierarchy from a whole ladder
+--     JoinLaws      the joining rate of two devices: the only one, and how it is found
+--     HierarchyLaws a plant has one hierarchy, and its levels are all groupings that occur
 --     Sweep         the groups by going through the devices once
 pub mod Figures
 pub mod RefusalLaws
@@ -30,6 +35,7 @@ pub mod Bounds
 pub mod Rates
 pub mod RangeLaws
 pub mod LowestLaws
+pub mod OrderLaws
 pub mod Family
 pub mod GroupLaws
 pub mod LabelLaws
@@ -38,6 +44,10 @@ pub mod FillLaws
 pub mod Divides
 pub mod Sweep
 pub mod Instance
+pub mod EndLaws
+pub mod LadderLaws
+pub mod JoinLaws
+pub mod HierarchyLaws
 pub mod Statements
 pub mod LevelLaws
 pub mod CrossingLaws
