@@ -2,6 +2,8 @@
 --     Statements    document 01's sentences on groups, as it says them
 --     Figures       K1 to K12
 --     RefusalLaws   the first fault: 0 exactly for an accepted plant
+--     PlantLaws     an accepted plant: a pair occurs once, all signals together
+--     RateRange     the least and the largest of the accepted rates
 --     SetLaws       small laws of tests and sets that the others cite
 --     Sums          out, size and cost of two sets together
 --     Best          the community is the best set that holds its device
@@ -18,6 +20,8 @@
 pub mod Figures
 pub mod RefusalLaws
 pub mod SetLaws
+pub mod PlantLaws
+pub mod RateRange
 pub mod Sums
 pub mod Best
 pub mod Communities
