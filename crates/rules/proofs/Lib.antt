@@ -6,6 +6,7 @@
 --     RateRange     the least and the largest of the accepted rates
 --     SetLaws       small laws of tests and sets that the others cite
 --     Sums          out, size and cost of two sets together
+--     AddedLaws     the cost is q times the cut of the graph with the added vertex t
 --     Best          the community is the best set that holds its device
 --     Communities   the only one; nested or apart
 --     Bounds        the two bounds of a group
@@ -16,13 +17,16 @@
 --     DistinctLaws  the number of distinct labels: of devices that are their own label
 --     Divides       a lower rate never divides a group of a higher one
 --     Instance      the communities at a rate are such a family; the laws of groups for all positive fractions
+--     Owners        owners of devices, whichever way the devices are gone through
 --     Sweep         the groups by going through the devices once
+--     Order         the same in any order of the devices
 pub mod Figures
 pub mod RefusalLaws
 pub mod SetLaws
 pub mod PlantLaws
 pub mod RateRange
 pub mod Sums
+pub mod AddedLaws
 pub mod Best
 pub mod Communities
 pub mod Bounds
@@ -32,6 +36,8 @@ pub mod GroupLaws
 pub mod LabelLaws
 pub mod DistinctLaws
 pub mod Divides
+pub mod Owners
 pub mod Sweep
+pub mod Order
 pub mod Instance
 pub mod Statements

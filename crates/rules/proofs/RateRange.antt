@@ -1,4 +1,4 @@
--- Document 01, "A rate is a kind of value with its own least and largest": both are accepted, and no accepted rate is below the least or above the largest. Rates are compared by cross products.
+-- The least and the largest rate: both are accepted, and no accepted rate is below the least or above the largest. Rates are compared by cross products.
 -- Assumes nothing.
 use Prim.Native.Nat.{ℕ, _*_, _≤_}
 use mathlib.Core.Path.{_≡_, refl}
@@ -6,9 +6,10 @@ use mathlib.Core.Bool.{Bool, true, _&&_}
 use native.Mathlib.Omega.{arith}
 use borrow.Author.Tests.{leb-true}
 use lib.Dec.{leb}
-use Rattle.rules.specs.Rates.{rateOk, leastRate, largestRate, Below}
+use Rattle.rules.specs.Rates.{rateOk, leastRate, largestRate}
 use Rattle.rules.proofs.SetLaws.{and-left, and-right}
 
+-- "A rate is a kind of value with its own least and largest": both are in range
 pub least-accepted : rateOk (leastRate .0) (leastRate .1) ≡ true
 unfolding rateOk
 least-accepted = refl
@@ -32,6 +33,7 @@ module _ (p q : ℕ) (ok : rateOk p q ≡ true) where
       let qs = and-right (leb 1 p && leb p 100000000) (leb 1 q && leb q 1000) ok in
       (leb-true _ _ (and-left (leb 1 q) (leb q 1000) qs), leb-true _ _ (and-right (leb 1 q) (leb q 1000) qs))
 
+  -- "A rate is a kind of value with its own least and largest": p/q is neither below the one nor above the other
   pub not-below-least : leastRate .0 * q ≤ p * leastRate .1
   not-below-least = omega (arith, p-range, q-range)
 
