@@ -1,5 +1,5 @@
 -- The laws of the definitions in specs/.
---     Statements    document 01's sentences on groups, as it says them
+--     Statements    document 01's sentences on cuts, communities and groups, as it says them
 --     Figures       K1 to K12
 --     RefusalLaws   the first fault: 0 exactly for an accepted plant
 --     PlantLaws     an accepted plant: a pair occurs once, all signals together

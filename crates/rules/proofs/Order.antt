@@ -1,8 +1,8 @@
 -- Document 01, "The order of devices in the search has no influence": whatever the order in which the devices are gone through, each at
 -- least once, the devices with one owner are one group, so that the labels from the owners are the labels of the groups.
 -- Assumes nothing.
-use mathlib.Core.Path.{_≡_, refl, sym, _∙_}
-use mathlib.Core.Bool.{Bool, true, false, _||_, false≢true}
+use mathlib.Core.Path.{_≡_, refl}
+use mathlib.Core.Bool.{true, false≢true}
 use mathlib.Core.List.{List, [], _∷_}
 use mathlib.Core.Logic.{_⊎_, inl, inr, ⊎-elim}
 use Prim.Native.Nat.{ℕ, _<_}
@@ -14,17 +14,13 @@ use Rattle.rules.specs.Community.{community}
 use Rattle.rules.specs.Groups.{among, label}
 use Rattle.rules.specs.Sweep.{visit, visitAll, sweepOver, Order, lowestWith}
 use Rattle.rules.proofs.Family.{Family}
-use Rattle.rules.proofs.SetLaws.{or-right}
+use Rattle.rules.proofs.SetLaws.{or-right, or-cases}
 use Rattle.rules.proofs.Owners.{Owned, State, state-fewer, visited-all, owner-label}
 
 -- in a list with d in front stand d and what stands in the rest
 front : (f d : ℕ) (ds : List ℕ) → among f (d ∷ ds) ≡ true → (f ≡ d) ⊎ (among f ds ≡ true)
 unfolding among
-front f d ds = go (eqb f d) refl
-  where
-    go : (b : Bool) → eqb f d ≡ b → (b || among f ds) ≡ true → (f ≡ d) ⊎ (among f ds ≡ true)
-    go true e h = inl (eqb-true f d e)
-    go false e h = inr h
+front f d ds h = ⊎-elim (λ e. inl (eqb-true f d e)) (λ r. inr r) (or-cases (eqb f d) (among f ds) h)
 
 first-among : (d : ℕ) (ds : List ℕ) → among d (d ∷ ds) ≡ true
 unfolding among

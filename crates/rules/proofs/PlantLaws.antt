@@ -5,9 +5,9 @@
 -- Assumes nothing.
 use Prim.Native.Nat.{ℕ, zero, suc, _+_, _*_, _≤_, _<_, zero-le, suc-le-suc}
 use mathlib.Core.Path.{_≡_, refl, sym}
-use mathlib.Core.Bool.{Bool, true, false, _||_}
+use mathlib.Core.Bool.{Bool, true, false}
 use mathlib.Core.List.{List, [], _∷_}
-use mathlib.Core.Logic.{_⊎_, inl, inr, ⊎-elim}
+use mathlib.Core.Logic.{⊎-elim}
 use native.Mathlib.Nat.{le-refl, le-trans, mul-le-mul-right, suc-mul}
 use native.Mathlib.Omega.{arith}
 use borrow.Author.Tests.{leb-true, eqb-true}
@@ -16,7 +16,7 @@ use lib.ListN.{length, getD}
 use Rattle.rules.specs.Plant.{Line, linesOf, plantOf, total}
 use Rattle.rules.specs.Cut.{Devices, crossing, out}
 use Rattle.rules.specs.Refusals.{rises, Accepted}
-use Rattle.rules.proofs.SetLaws.{and-left, and-right, below-suc}
+use Rattle.rules.proofs.SetLaws.{and-left, and-right, or-cases, below-suc}
 
 -- line i comes before line j: by first end, then second end
 record Before (xs ys : List ℕ) (i j : ℕ) : Type 0 where
@@ -28,10 +28,6 @@ before-trans {xs} {ys} {i} {j} {k} a b = record { first = le-trans (a .first) (b
   where
     both : getD xs i 0 ≡ getD xs k 0 → getD ys i 0 < getD ys k 0
     both e = omega (arith, a .second (omega (arith, a .first, b .first)), b .second (omega (arith, a .first, b .first)))
-
-or-cases : (a b : Bool) → (a || b) ≡ true → (a ≡ true) ⊎ (b ≡ true)
-or-cases true b e = inl refl
-or-cases false b e = inr e
 
 module _ (xs ys : List ℕ) where
   rises-before : (k : ℕ) → rises xs ys (suc k) ≡ true → Before xs ys k (suc k)

@@ -8,38 +8,34 @@ use Prim.Native.Nat.{ℕ, zero, suc, _≤_, _<_}
 use native.Mathlib.Nat.{le-refl, eq-or-lt-of-le, le-of-suc-le-suc}
 use native.Mathlib.Omega.{arith}
 use lib.Dec.{eqb}
-use borrow.Author.Tests.{eq-eqb, ne-eqb}
 use Rattle.rules.specs.Plant.{Plant}
 use Rattle.rules.specs.Cut.{Devices, Inside, Agree, size}
 use Rattle.rules.specs.Community.{community}
 use Rattle.rules.specs.Groups.{groupOf, lowest, label}
 use Rattle.rules.specs.Sweep.{paint, sweep, visit, lowestWith}
 use Rattle.rules.proofs.Family.{Family}
-use Rattle.rules.proofs.Owners.{Owned, State, state-fewer, visited-all, owner-largest, owner-one, owner-self, owner-group, owner-same, owner-label}
+use Rattle.rules.proofs.Owners.{visit-takes, visit-keeps, Owned, State, state-fewer, visited-all, owner-largest, owner-one, owner-self, owner-group, owner-same, owner-label}
 
--- one step: an owner is taken, the device is not wanted, or it is owned
+-- one step: a wanted device is gone through, and then becomes an owner or is owned; the others are passed over
 module _ (C : ℕ → Devices) (wanted : ℕ → Bool) (nobody k : ℕ) where
-  pub sweep-takes : wanted k ≡ true → sweep C wanted nobody k k ≡ nobody → (v : ℕ)
-      → sweep C wanted nobody (suc k) v ≡ cond (C k v) k (sweep C wanted nobody k v)
-  unfolding sweep paint
-  sweep-takes w e v = rw (w, eq-eqb (sweep C wanted nobody k k) nobody e)
-
-  -- a wanted device is gone through
   pub sweep-visits : wanted k ≡ true → (v : ℕ) → sweep C wanted nobody (suc k) v ≡ visit C nobody k (sweep C wanted nobody k) v
   unfolding sweep visit
   sweep-visits w v = rw w
+
+  pub sweep-takes : wanted k ≡ true → sweep C wanted nobody k k ≡ nobody → (v : ℕ)
+      → sweep C wanted nobody (suc k) v ≡ cond (C k v) k (sweep C wanted nobody k v)
+  sweep-takes w e v = sweep-visits w v ∙ visit-takes C nobody k (sweep C wanted nobody k) e v
 
   pub sweep-passes : wanted k ≡ false → (v : ℕ) → sweep C wanted nobody (suc k) v ≡ sweep C wanted nobody k v
   unfolding sweep
   sweep-passes w v = rw w
 
   pub sweep-keeps : (sweep C wanted nobody k k ≡ nobody → ⊥) → (v : ℕ) → sweep C wanted nobody (suc k) v ≡ sweep C wanted nobody k v
-  unfolding sweep
-  sweep-keeps e v = go (wanted k)
+  sweep-keeps e v = go (wanted k) refl
     where
-      go : (b : Bool) → cond (b && eqb (sweep C wanted nobody k k) nobody) (paint (C k) k (sweep C wanted nobody k) v) (sweep C wanted nobody k v) ≡ sweep C wanted nobody k v
-      go true = rw (ne-eqb (sweep C wanted nobody k k) nobody e)
-      go false = refl
+      go : (b : Bool) → wanted k ≡ b → sweep C wanted nobody (suc k) v ≡ sweep C wanted nobody k v
+      go true w = sweep-visits w v ∙ visit-keeps C nobody k (sweep C wanted nobody k) e v
+      go false w = sweep-passes w v
 
 module _ (n : ℕ) (weigh : Devices → ℕ) (C : ℕ → Devices) (fam : Family n weigh C) (wanted : ℕ → Bool) where
   -- the devices gone through: those below k that are wanted
