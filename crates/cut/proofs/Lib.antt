@@ -10,7 +10,8 @@
 --     SumLoop     a loop that adds up
 --     Determined  two results that a public contract allows are equal
 --     CallLaws    the public calls: first fault, answer and lent lists, refused and accepted
---     SpareLaws    what each set costs is what has been sent and what can still leave it: at the start, after a path, at the end
+--     SpareLaws   what each set costs is what has been sent and what can still leave it: at the start, after a path, at the end
+--     SameRate    rates that are one fraction: the community call answers the same and leaves the same marks
 pub mod RateLaws
 pub mod CheckLaws
 pub mod SumLaws
@@ -23,3 +24,4 @@ pub mod LeastLaws
 pub mod SumLoop
 pub mod CallLaws
 pub mod Determined
+pub mod SameRate

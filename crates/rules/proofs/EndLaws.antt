@@ -26,6 +26,7 @@ use Rattle.rules.proofs.GroupLaws.{group-community, group-holds}
 use Rattle.rules.proofs.LabelLaws.{lowest-in, table-agree, label-from, label-same}
 use Rattle.rules.proofs.Instance.{family}
 use Rattle.rules.proofs.Divides.{group-coarser}
+use Rattle.rules.proofs.PlantLaws.{signals-most, out-total}
 use Rattle.rules.proofs.LevelLaws.{agree-groups}
 
 -- the set of one device
@@ -87,33 +88,15 @@ module _ (g : Plant) (p q most : ℕ) (s : Sound g) (o : 1 ≤ p) (bound : (S : 
   unfolding groups
   top = table-agree n (label g p q) (λ v. v) label-alone
 
-crossing-most : (s : ℕ) (a b : Bool) → crossing s a b ≤ s
-unfolding crossing
-crossing-most s true true = zero-le
-crossing-most s true false = le-refl s
-crossing-most s false true = le-refl s
-crossing-most s false false = zero-le
-
--- lines with at most `most` signals each
-out-most : (most : ℕ) (xs ys zs : List ℕ) (S : Devices) → ((k : ℕ) → k < length xs → getD zs k 0 ≤ most) → out (linesOf xs ys zs) S ≤ most * length xs
-unfolding linesOf out
-out-most most [] ys zs S h = zero-le
-out-most most (x ∷ xs) [] zs S h = zero-le
-out-most most (x ∷ xs) (y ∷ ys) [] S h = zero-le
-out-most most (x ∷ xs) (y ∷ ys) (z ∷ zs) S h =
-    omega (arith, out-most most xs ys zs S (λ k l. h (suc k) (suc-le-suc l)), crossing-most z (S x) (S y), h 0 (suc-le-suc zero-le))
-
--- "All signals together are at most 67,107,840."
-pub signals-most : (n : ℕ) (xs ys zs : List ℕ) → Accepted n xs ys zs → (S : Devices) → out (plantOf n xs ys zs .lines) S ≤ 67107840
-unfolding plantOf
-signals-most n xs ys zs a S =
-    omega (arith, out-most 65535 xs ys zs S (a .most-signals), a .most-lines)
+-- of an accepted plant no set has more than all signals out
+pub out-most : (n : ℕ) (xs ys zs : List ℕ) → Accepted n xs ys zs → (S : Devices) → out (plantOf n xs ys zs .lines) S ≤ 67107840
+out-most n xs ys zs a S = omega (arith, out-total (plantOf n xs ys zs .lines) S, signals-most n xs ys zs a)
 
 -- of an accepted plant every device is alone from 100,000,000/1 on
 pub top-accepted : (n : ℕ) (xs ys zs : List ℕ) (p q : ℕ) → Accepted n xs ys zs → 1 ≤ q → 100000000 * q ≤ p → groups (plantOf n xs ys zs) p q ≡ table n (λ v. v)
 unfolding plantOf
 top-accepted n xs ys zs p q a o h =
-    top (plantOf n xs ys zs) p q 67107840 (accepted-sound n xs ys zs a) (omega arith) (signals-most n xs ys zs a) (omega arith)
+    top (plantOf n xs ys zs) p q 67107840 (accepted-sound n xs ys zs a) (omega arith) (out-most n xs ys zs a) (omega arith)
 
 -- p/q is so low that every signal outweighs all devices but one
 abbrev pub Low : Plant → ℕ → ℕ → Type 0

@@ -1,14 +1,16 @@
 -- The laws of the definitions in specs/.
---     Statements    document 01's sentences on groups, as it says them
+--     Statements    document 01's sentences on cuts, communities and groups, as it says them
 --     Figures       K1 to K12
 --     RefusalLaws   the first fault: 0 exactly for an accepted plant
+--     PlantLaws     an accepted plant: a pair occurs once, all signals together
 --     SetLaws       small laws of tests and sets that the others cite
 --     Sums          out, size and cost of two sets together
+--     AddedLaws     the cost is q times the cut of the graph with the added vertex t
 --     Best          the community is the best set that holds its device
 --     Communities   the only one; nested or apart
 --     Bounds        the two bounds of a group
 --     Rates         communities at two rates
---     RangeLaws     the range test of a rate, bound by bound
+--     RangeLaws     the range test of a rate, bound by bound, and its least and largest
 --     LowestLaws    a fraction has one form in lowest terms
 --     OrderLaws     the order of fractions by cross products
 --     Family        what the groups need of the communities
@@ -24,11 +26,15 @@
 --     LadderLaws    levels between two rates: one breakpoint, two ladders joined, and the hierarchy from a whole ladder
 --     JoinLaws      the joining rate of two devices: the only one, and how it is found
 --     HierarchyLaws a plant has one hierarchy, and its levels are all groupings that occur
+--     Owners        owners of devices, whichever way the devices are gone through
 --     Sweep         the groups by going through the devices once
+--     Order         the same in any order of the devices
 pub mod Figures
 pub mod RefusalLaws
 pub mod SetLaws
+pub mod PlantLaws
 pub mod Sums
+pub mod AddedLaws
 pub mod Best
 pub mod Communities
 pub mod Bounds
@@ -42,7 +48,9 @@ pub mod LabelLaws
 pub mod DistinctLaws
 pub mod FillLaws
 pub mod Divides
+pub mod Owners
 pub mod Sweep
+pub mod Order
 pub mod Instance
 pub mod EndLaws
 pub mod LadderLaws
