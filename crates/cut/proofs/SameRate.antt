@@ -19,8 +19,8 @@ use Rattle.rules.proofs.Sums.{agree-out, agree-size}
 use Rattle.rules.proofs.Rates.{same-rate}
 use Rattle.cut.specs.declared.community.Answer.{Answer}
 use Rattle.cut.specs.Calls.{marksOf, communityFault, communityAnswer, communityMarks}
-use Rattle.cut.proofs.RateLaws.{range-in}
-use Rattle.cut.proofs.FillLaws.{over-agree}
+use Rattle.rules.proofs.RangeLaws.{range-in}
+use Rattle.rules.proofs.FillLaws.{over-agree}
 use Rattle.cut.proofs.CallLaws.{plant-accepted, community-plant, community-10}
 
 -- what is said where the number is 0, and something else where it is not
