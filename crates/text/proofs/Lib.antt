@@ -26,4 +26,5 @@ pub mod LineLaws
 pub mod TextLaws
 pub mod Accepted
 pub mod Laws
+pub mod PlaceLines
 pub mod Examples

@@ -16,15 +16,12 @@ use Rattle.text.specs.declared.Form.{Form}
 use Rattle.text.specs.Lines.{plantLine, devicesKey, linesKey, endLine, newline, begins, fieldText, field, rowText, row}
 use Rattle.text.specs.Form.{rowsText, plantText, goodRows, usedRows, column, endFault, rowsFault, formLines, formDevices, form}
 use Rattle.text.specs.Reading.{valuesOf, firstsOf, secondsOf, signalsOf}
+use Rattle.text.specs.Place.{Small}
 use Rattle.text.proofs.Steps.{past}
 use Rattle.text.proofs.Fields.{by-cond}
 use Rattle.text.proofs.Forms.{form-good}
 use Rattle.text.proofs.Judged.{column-length}
 use Rattle.text.proofs.LineLaws.{begins-self, begins-split, no-newline, field-reads, field-written, row-reads, row-written}
-
--- every number of the list has at most nine digits
-abbrev pub Small : List ℕ → Type 0
-Small xs = (k : ℕ) → k < length xs → getD xs k 0 < 1000000000
 
 -- what reading finds where the rows of three lists stand, and then rest
 pub record RowsRead (xs ys zs rest : List ℕ) : Type 0 where
@@ -175,46 +172,50 @@ pub record TextRead (n : ℕ) (xs ys zs t : List ℕ) : Type 0 where
   pub seconds : secondsOf t ≡ ys
   pub signals : signalsOf t ≡ zs
 
-module _ (n : ℕ) (xs ys zs : List ℕ) (hn : n < 1000000000) (hm : length xs < 1000000000) (r : RowsRead xs ys zs endLine) where
+-- the form of a text whose first three text lines are as expected, whatever comes then
+module _ (n m : ℕ) (rest : List ℕ) (hn : n < 1000000000) (hm : m < 1000000000) where
   abbrev f : List ℕ
   f = fieldText devicesKey newline n
 
   abbrev g : List ℕ
-  g = fieldText linesKey newline (length xs)
+  g = fieldText linesKey newline m
 
+  abbrev t : List ℕ
+  t = plantLine ++ (f ++ (g ++ rest))
+
+  after-devices : drop (8 + length f) t ≡ g ++ rest
+  after-devices = sym (drop-drop (length f) 8 t) ∙ drop-append-seam f (g ++ rest)
+
+  after-lines : drop (8 + length f + length g) t ≡ rest
+  after-lines = sym (drop-drop (length g) (8 + length f) t) ∙ rw after-devices (drop-append-seam g rest)
+
+  pub form-is : record { line = rowsFault m rest; devices = n; lines = m; at = 8 + length f + length g } ≡ form t
+  form-is =
+      form-good t {g = true} (sym (begins-self plantLine (f ++ (g ++ rest)))) refl
+      {n = record { ok = true; value = n; used = length f }} (sym (field-reads devicesKey 10 n (g ++ rest) no-newline hn)) refl
+      {m = record { ok = true; value = m; used = length g }} (rw after-devices (sym (field-reads linesKey 10 m rest no-newline hm)))
+      {line = rowsFault m rest} refl (rw after-lines refl)
+
+module _ (n : ℕ) (xs ys zs : List ℕ) (hn : n < 1000000000) (hm : length xs < 1000000000) (r : RowsRead xs ys zs endLine) where
   abbrev rows : List ℕ
   rows = rowsText xs ys zs ++ endLine
 
-  abbrev t : List ℕ
-  t = plantLine ++ (f ++ (g ++ rows))
-
-  after-devices : drop (8 + length f) t ≡ g ++ rows
-  after-devices = sym (drop-drop (length f) 8 t) ∙ drop-append-seam f (g ++ rows)
-
-  after-lines : drop (8 + length f + length g) t ≡ rows
-  after-lines = sym (drop-drop (length g) (8 + length f) t) ∙ rw after-devices (drop-append-seam g rows)
-
-  rest-good : 0 ≡ rowsFault (length xs) (drop (8 + length f + length g) t)
+  rest-good : rowsFault (length xs) rows ≡ 0
   unfolding rowsFault endFault begins
-  rest-good =
-      sym (rw (after-lines, r .good, eq-eqb (length xs) (length xs) refl, r .bytes, drop-append-seam (rowsText xs ys zs) endLine) refl)
+  rest-good = rw (r .good, eq-eqb (length xs) (length xs) refl, r .bytes, drop-append-seam (rowsText xs ys zs) endLine) refl
 
-  form-is : record { line = 0; devices = n; lines = length xs; at = 8 + length f + length g } ≡ form t
-  form-is =
-      form-good t {g = true} (sym (begins-self plantLine (f ++ (g ++ rows)))) refl
-      {n = record { ok = true; value = n; used = length f }} (sym (field-reads devicesKey 10 n (g ++ rows) no-newline hn)) refl
-      {m = record { ok = true; value = length xs; used = length g }} (rw after-devices (sym (field-reads linesKey 10 (length xs) rows no-newline hm))) {line = 0} refl rest-good
-
-  words-read : TextRead n xs ys zs t
+  words-read : TextRead n xs ys zs (t n (length xs) rows hn hm)
   unfolding valuesOf
   words-read =
+      let e : _ = form-is n (length xs) rows hn hm in
+      let there : _ = after-lines n (length xs) rows hn hm in
       record {
-        line = rw (sym form-is) refl;
-        devices = rw (sym form-is) refl;
-        lines = rw (sym form-is) refl;
-        firsts = rw (sym form-is, after-lines) (r .firsts);
-        seconds = rw (sym form-is, after-lines) (r .seconds);
-        signals = rw (sym form-is, after-lines) (r .signals);
+        line = rw (sym e) rest-good;
+        devices = rw (sym e) refl;
+        lines = rw (sym e) refl;
+        firsts = rw (sym e, there) (r .firsts);
+        seconds = rw (sym e, there) (r .seconds);
+        signals = rw (sym e, there) (r .signals);
       }
 
   pub text-read : TextRead n xs ys zs (plantText n xs ys zs)
