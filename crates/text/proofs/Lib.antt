@@ -27,4 +27,5 @@ pub mod TextLaws
 pub mod Accepted
 pub mod Laws
 pub mod PlaceLines
+pub mod PlaceForms
 pub mod Examples

@@ -125,43 +125,56 @@ text-words n xs ys zs =
     let r : List ℕ = rowsText xs ys zs in
     append-assoc (plantLine ++ f ++ g) r endLine ∙ append-assoc (plantLine ++ f) g (r ++ endLine) ∙ append-assoc plantLine f (g ++ (r ++ endLine))
 
+-- the two fields of a text, and the bytes after them
+abbrev pub devicesAt : List ℕ → Number
+devicesAt t = field devicesKey newline (drop 8 t)
+
+abbrev pub linesAt : List ℕ → Number
+linesAt t = field linesKey newline (drop (8 + devicesAt t .used) t)
+
+abbrev pub rowsAt : List ℕ → List ℕ
+rowsAt t = drop (8 + devicesAt t .used + linesAt t .used) t
+
+-- where they are read, their text stands
+module _ (t : List ℕ) (e : begins plantLine t ≡ true) (o : devicesAt t .ok ≡ true) where
+  pub devices-written : plantLine ++ (fieldText devicesKey newline (devicesAt t .value) ++ drop (8 + devicesAt t .used) t) ≡ t
+  devices-written =
+      rw (sym (drop-drop (devicesAt t .used) 8 t))
+      (ap (λ (u : List ℕ). plantLine ++ u) (field-written devicesKey newline (drop 8 t) o) ∙ begins-split plantLine t e)
+
+  pub lines-written : linesAt t .ok ≡ true
+      → plantLine ++ (fieldText devicesKey newline (devicesAt t .value) ++ (fieldText linesKey newline (linesAt t .value) ++ rowsAt t)) ≡ t
+  lines-written q =
+      rw (sym (drop-drop (linesAt t .used) (8 + devicesAt t .used) t))
+      (ap (λ (u : List ℕ). plantLine ++ (fieldText devicesKey newline (devicesAt t .value) ++ u)) (field-written linesKey newline (drop (8 + devicesAt t .used) t) q)
+      ∙ devices-written)
+
 -- a text of the right form is the text of what it states
 pub form-written : (t : List ℕ) → form t .line ≡ 0
     → plantText (form t .devices) (firstsOf t) (secondsOf t) (signalsOf t) ≡ t
 unfolding form formDevices formLines valuesOf
 form-written t =
     by-cond written (begins plantLine t)
-    (λ e. by-cond written (d .ok) (λ o. by-cond written (m .ok) (λ q z. all e o q z) (λ q z. absurd (omega (arith, z)))) (λ o z. absurd (omega (arith, z))))
+    (λ e.
+    by-cond written (devicesAt t .ok)
+    (λ o. by-cond written (linesAt t .ok) (λ q z. all e o q z) (λ q z. absurd (omega (arith, z))))
+    (λ o z. absurd (omega (arith, z))))
     (λ e z. absurd (omega (arith, z)))
   where
-    d : Number
-    d = field devicesKey newline (drop 8 t)
-
-    m : Number
-    m = field linesKey newline (drop (8 + d .used) t)
-
     values : (Row → ℕ) → Form → List ℕ
     values g f = column g (f .lines) (drop (f .at) t)
 
     written : Form → Type 0
     written f = f .line ≡ 0 → plantText (f .devices) (values (λ w. w .first) f) (values (λ w. w .second) f) (values (λ w. w .signals) f) ≡ t
 
-    f : List ℕ
-    f = fieldText devicesKey newline (d .value)
+    column-of : (Row → ℕ) → List ℕ
+    column-of g = column g (linesAt t .value) (rowsAt t)
 
-    rest : List ℕ
-    rest = drop (8 + d .used + m .used) t
-
-    all : begins plantLine t ≡ true → d .ok ≡ true → m .ok ≡ true → rowsFault (m .value) rest ≡ 0
-        → plantText (d .value) (column (λ w. w .first) (m .value) rest) (column (λ w. w .second) (m .value) rest) (column (λ w. w .signals) (m .value) rest) ≡ t
+    all : begins plantLine t ≡ true → devicesAt t .ok ≡ true → linesAt t .ok ≡ true → rowsFault (linesAt t .value) (rowsAt t) ≡ 0
+        → plantText (devicesAt t .value) (column-of (λ w. w .first)) (column-of (λ w. w .second)) (column-of (λ w. w .signals)) ≡ t
     all e o q z =
         text-words _ _ _ _
-        ∙ ap (λ (u : List ℕ). plantLine ++ (f ++ (fieldText linesKey newline (length (column (λ w. w .first) (m .value) rest)) ++ u))) (rest-written (m .value) rest z)
-        ∙ ap (λ (k : ℕ). plantLine ++ (f ++ (fieldText linesKey newline k ++ rest))) (column-length (λ w. w .first) (m .value) rest)
-        ∙ ap (λ (u : List ℕ). plantLine ++ (f ++ (fieldText linesKey newline (m .value) ++ u))) (sym (drop-drop (m .used) (8 + d .used) t))
-        ∙ ap (λ (u : List ℕ). plantLine ++ (f ++ u)) (field-written linesKey newline (drop (8 + d .used) t) q ∙ sym (drop-drop (d .used) 8 t))
-        ∙ ap (λ (u : List ℕ). plantLine ++ u) (field-written devicesKey newline (drop 8 t) o)
-        ∙ begins-split plantLine t e
+        ∙ rw (rest-written (linesAt t .value) (rowsAt t) z, column-length (λ w. w .first) (linesAt t .value) (rowsAt t)) (lines-written t e o q)
 
 -- what reading finds in the text of a plant
 pub record TextRead (n : ℕ) (xs ys zs t : List ℕ) : Type 0 where
