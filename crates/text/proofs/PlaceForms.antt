@@ -7,7 +7,7 @@ use Prim.Native.Nat.{ℕ, zero, suc, _+_, _-_, _≤_, _<_, zero-le, suc-le-suc}
 use native.Mathlib.Nat.{suc-ne-zero, eq-or-lt-of-le, le-of-suc-le-suc, not-suc-le-zero}
 use native.Mathlib.Omega.{arith}
 use mathlib.Core.Path.{_≡_, refl, sym, ap, subst, _∙_}
-use mathlib.Core.Bool.{Bool, true, false, true≢false}
+use mathlib.Core.Bool.{Bool, true, false, cond, true≢false}
 use mathlib.Core.Logic.{_⊎_, ⊎-elim}
 use mathlib.Core.List.{List, [], _∷_, _++_, append-assoc, append-nil}
 use lib.Dec.{eqb}
@@ -21,6 +21,7 @@ use Rattle.text.specs.Lines.{plantLine, devicesKey, linesKey, lineKey, e
 use Rattle.text.specs.Form.{rowsText, plantText, goodRows, usedRows, column, endFault, rowsFault, formLines, formDevices, form}
 use Rattle.text.specs.Place.{textLines, firstLines, Small, RightForm, Expected}
 use Rattle.text.proofs.Fields.{by-cond, field-small}
+use Rattle.text.proofs.Forms.{rows-most}
 use Rattle.text.proofs.Judged.{column-length}
 use Rattle.text.proofs.LineLaws.{begins-self, begins-split, no-newline, field-reads, row-reads, row-written}
 use Rattle.text.proofs.TextLaws.{RowsRead, rows-read, rows-written, devicesAt, linesAt, rowsAt, devices-written, lines-written, form-is}
@@ -186,3 +187,174 @@ form-past {t} {k} x =
     omega (arith, expected-has x, words-count (r .devices) (r .firsts) (r .seconds) (r .signals) (r .one-length) (r .one-length′), ap textLines (r .text)) in
     subst (λ (u : List ℕ). Past k (form u .line)) (ap (λ (u : List ℕ). firstLines k u ++ drop (length (firstLines k t)) t) (sym (r .text)) ∙ expected-front x)
     (text-past r (drop (length (firstLines k t)) t) k few)
+
+-- the numbers of a row have at most nine digits, and so do those of the rows
+abbrev RowSmall : Row → Type 0
+RowSmall r = (r .first < 1000000000) × (r .second < 1000000000) × (r .signals < 1000000000)
+
+row-small : (l : List ℕ) → RowSmall (row l)
+unfolding row rowFirst rowSecond rowOf
+row-small l =
+    by-cond RowSmall (a .ok)
+    (λ p. by-cond RowSmall (b .ok) (λ q. by-cond RowSmall (s .ok) (λ r. (field-small lineKey comma l, field-small [] comma _, field-small [] newline _)) (λ r. none)) (λ q. none))
+    (λ p. none)
+  where
+    a : Number
+    a = field lineKey comma l
+
+    b : Number
+    b = field [] comma (drop (a .used) l)
+
+    s : Number
+    s = field [] newline (drop (a .used + b .used) l)
+
+    none : (0 < 1000000000) × (0 < 1000000000) × (0 < 1000000000)
+    none = omega arith
+
+column-small : (f : Row → ℕ) → ((l : List ℕ) → f (row l) < 1000000000) → (m : ℕ) (l : List ℕ) → Small (column f m l)
+unfolding column
+column-small f h zero l k less = absurd (not-suc-le-zero less)
+column-small f h (suc m) l zero less = h l
+column-small f h (suc m) l (suc k) less = column-small f h m (drop (row l .used) l) k (le-of-suc-le-suc less)
+
+column-same : (f g : Row → ℕ) (m : ℕ) (l : List ℕ) → length (column f m l) ≡ length (column g m l)
+column-same f g m l = column-length f m l ∙ sym (column-length g m l)
+
+-- the text of n and of the numbers of m rows, whether or not those are good
+abbrev stating : ℕ → ℕ → List ℕ → List ℕ
+stating n m l = plantText n (column (λ w. w .first) m l) (column (λ w. w .second) m l) (column (λ w. w .signals) m l)
+
+pub stating-right : (n m : ℕ) (l : List ℕ) → n < 1000000000 → m < 1000000000 → RightForm (stating n m l)
+stating-right n m l hn hm =
+    record {
+      devices = n;
+      firsts = column (λ w. w .first) m l;
+      seconds = column (λ w. w .second) m l;
+      signals = column (λ w. w .signals) m l;
+      one-length = column-same _ _ m l;
+      one-length′ = column-same _ _ m l;
+      small-devices = hn;
+      small-lines = rw (column-length (λ w. w .first) m l) hm;
+      small-firsts = column-small (λ w. w .first) (λ l. row-small l .0) m l;
+      small-seconds = column-small (λ w. w .second) (λ l. row-small l .1) m l;
+      small-signals = column-small (λ w. w .signals) (λ l. row-small l .2) m l;
+      text = refl;
+    }
+
+-- a row that is read is the first text line here, and then come g text lines, in n bytes
+good-then : (l : List ℕ) (g n : ℕ) (r e : List ℕ) → firstLines g (r ++ e) ++ drop n (drop (row l .used) l) ≡ drop (row l .used) l
+    → firstLines (cond (row l .ok) (suc g) 0) (rowText (row l .first) (row l .second) (row l .signals) ++ r ++ e) ++ drop (cond (row l .ok) (row l .used + n) 0) l ≡ l
+unfolding firstLines
+good-then l g n r e ih = go (row l .ok) refl
+  where
+    here : List ℕ
+    here = rowText (row l .first) (row l .second) (row l .signals)
+
+    go : (b : Bool) → row l .ok ≡ b → firstLines (cond b (suc g) 0) (here ++ r ++ e) ++ drop (cond b (row l .used + n) 0) l ≡ l
+    go true o =
+        rw (append-assoc here r e, line-first (row-line (row l .first) (row l .second) (row l .signals)) g (r ++ e), ← drop-drop n (row l .used) l)
+        (append-assoc here (firstLines g (r ++ e)) _ ∙ rw ih (row-written l o))
+    go false o = refl
+
+-- the good rows are the first text lines of the rows that are stated
+good-written : (m : ℕ) (l e : List ℕ)
+    → firstLines (goodRows m l) (rowsText (column (λ w. w .first) m l) (column (λ w. w .second) m l) (column (λ w. w .signals) m l) ++ e)
+    ++ drop (usedRows m l) l
+    ≡ l
+unfolding goodRows usedRows rowsText column firstLines
+good-written zero l e = refl
+good-written (suc m) l e = good-then l _ _ _ e (good-written m (drop (row l .used) l) e)
+
+-- a text that begins as the text of n and of the numbers of m rows l does
+module _ (n m : ℕ) (l rest t : List ℕ) (hn : n < 1000000000) (hm : m < 1000000000) where
+  abbrev ps : List ℕ
+  ps = column (λ w. w .first) m l
+
+  abbrev qs : List ℕ
+  qs = column (λ w. w .second) m l
+
+  abbrev ss : List ℕ
+  ss = column (λ w. w .signals) m l
+
+  right : RightForm (stating n m l)
+  right = stating-right n m l hn hm
+
+  stating-count : textLines (stating n m l) ≡ 4 + m
+  stating-count = words-count n ps qs ss (column-same _ _ m l) (column-same _ _ m l) ∙ rw (column-length (λ w. w .first) m l) refl
+
+  none-expected : Expected t 0
+  unfolding firstLines
+  none-expected = expected 0 t t right zero-le refl
+
+  plant-expected : plantLine ++ rest ≡ t → Expected t 1
+  unfolding firstLines
+  plant-expected e =
+      expected 1 rest t right (omega (arith, stating-count)) (rw (words-plant n ps qs ss 0) e)
+
+  devices-expected : plantLine ++ (fieldText devicesKey newline n ++ rest) ≡ t → Expected t 2
+  unfolding firstLines
+  devices-expected e =
+      expected 2 rest t right (omega (arith, stating-count))
+      (rw (words-devices n ps qs ss 0, append-nil (fieldText devicesKey newline n)) e)
+
+  lines-expected : (j : ℕ) → j ≤ suc m → plantLine ++ (fieldText devicesKey newline n ++ (fieldText linesKey newline m ++ l)) ≡ t
+      → firstLines j (rowsText ps qs ss ++ endLine) ++ rest ≡ l → Expected t (3 + j)
+  lines-expected j h e q =
+      let f : List ℕ = fieldText devicesKey newline n in
+      let g : List ℕ = fieldText linesKey newline m in
+      let rows : List ℕ = firstLines j (rowsText ps qs ss ++ endLine) in
+      let three : suc (suc (suc j)) ≡ 3 + j = omega arith in
+      subst (Expected t) three
+      (expected (suc (suc (suc j))) rest t right (omega (arith, stating-count))
+      (rw (words-lines n ps qs ss j, column-length (λ w. w .first) m l, append-assoc f (g ++ rows) rest, append-assoc g rows rest, q) e))
+
+-- and where end=plant follows, the rows and the end are all of them
+end-written : (m : ℕ) (l : List ℕ) → Ended m l
+    → firstLines (suc m) (rowsText (column (λ w. w .first) m l) (column (λ w. w .second) m l) (column (λ w. w .signals) m l) ++ endLine)
+    ++ drop 10 (drop (usedRows m l) l)
+    ≡ l
+end-written m l x =
+    let e : firstLines (suc m) (rows ++ endLine) ≡ rows ++ endLine =
+    ap (λ (k : ℕ). firstLines (suc k) (rows ++ endLine)) (sym (column-length (λ w. w .first) m l)) ∙ rows-end 0 _ _ _ (column-same _ _ m l) (column-same _ _ m l) in
+    rw (e, append-assoc rows endLine (drop 10 (drop (usedRows m l) l)))
+    (ap (λ (u : List ℕ). rows ++ u) (begins-split endLine (drop (usedRows m l) l) (x .1)) ∙ rows-written m l (x .0))
+  where
+    rows : List ℕ
+    rows = rowsText (column (λ w. w .first) m l) (column (λ w. w .second) m l) (column (λ w. w .signals) m l)
+
+-- the text lines before the one that the form names are as expected
+pub form-before : (t : List ℕ) → (form t .line ≡ 0 → ⊥) → Expected t (form t .line - 1)
+form-before t =
+    form-by before t
+    (λ e z. none-expected 0 0 [] [] t small small)
+    (λ e o z. plant-expected 0 0 [] (drop 8 t) t small small (begins-split plantLine t e))
+    (λ e o q z. devices-expected n 0 [] (drop (8 + devicesAt t .used) t) t hn small (devices-written t e o))
+    (λ e o q.
+    rows-by before m l
+    (λ x z.
+    subst (Expected t) (omega arith) (lines-expected n m l (drop (usedRows m l) l) t hn hm (goodRows m l) (omega (arith, rows-most m l)) (lines-written t e o q) (good-written m l endLine)))
+    (λ z. absurd (z refl))
+    (λ x z.
+    subst (Expected t) (omega arith)
+    (lines-expected n m l (drop 10 (drop (usedRows m l) l)) t hn hm (suc m) (omega arith) (lines-written t e o q) (end-written m l x))))
+  where
+    before : ℕ → Type 0
+    before k = (k ≡ 0 → ⊥) → Expected t (k - 1)
+
+    n : ℕ
+    n = devicesAt t .value
+
+    m : ℕ
+    m = linesAt t .value
+
+    l : List ℕ
+    l = rowsAt t
+
+    small : 0 < 1000000000
+    small = omega arith
+
+    hn : n < 1000000000
+    hn = field-small devicesKey newline (drop 8 t)
+
+    hm : m < 1000000000
+    hm = field-small linesKey newline (drop (8 + devicesAt t .used) t)
