@@ -28,4 +28,5 @@ pub mod Accepted
 pub mod Laws
 pub mod PlaceLines
 pub mod PlaceForms
+pub mod PlaceLaws
 pub mod Examples

@@ -18,13 +18,14 @@ use Rattle.text.specs.declared.Row.{Row}
 use Rattle.text.specs.declared.Number.{Number}
 use Rattle.text.specs.declared.Form.{Form}
 use Rattle.text.specs.Lines.{plantLine, devicesKey, linesKey, lineKey, endLine, newline, comma, begins, fieldText, field, rowText, rowOf, rowSecond, rowFirst, row}
-use Rattle.text.specs.Form.{rowsText, plantText, goodRows, usedRows, column, endFault, rowsFault, formLines, formDevices, form}
+use Rattle.text.specs.Form.{rowsText, plantText, goodRows, usedRows, column, endFault, rowsFault, wrongLine, formLines, formDevices, form}
+use Rattle.text.specs.Reading.{valuesOf}
 use Rattle.text.specs.Place.{textLines, firstLines, Small, RightForm, Expected}
 use Rattle.text.proofs.Fields.{by-cond, field-small}
 use Rattle.text.proofs.Forms.{rows-most}
 use Rattle.text.proofs.Judged.{column-length}
 use Rattle.text.proofs.LineLaws.{begins-self, begins-split, no-newline, field-reads, row-reads, row-written}
-use Rattle.text.proofs.TextLaws.{RowsRead, rows-read, rows-written, devicesAt, linesAt, rowsAt, devices-written, lines-written, form-is}
+use Rattle.text.proofs.TextLaws.{RowsRead, rows-read, rows-written, devicesAt, linesAt, rowsAt, form-written, devices-written, lines-written, form-is}
 use Rattle.text.proofs.PlaceLines.{first-begins, first-again, first-count, line-first, row-line, rows-end, words-plant, words-devices, words-lines, words-count}
 
 -- a text that begins with the first k text lines of a text of the right form
@@ -61,18 +62,6 @@ module _ {t : List ℕ} {k : ℕ} (x : Expected t k) where
         begin = let same : firstLines j (x .whole) ≡ firstLines j t = rw (sym whole-is) (first-again j k t rest h (omega (arith, x .has))) in rw (sym same) (first-begins j (x .whole));
       }
 
--- the line of a form, by what was read
-form-by : (P : ℕ → Type 0) (t : List ℕ) → (begins plantLine t ≡ false → P 1)
-    → (begins plantLine t ≡ true → devicesAt t .ok ≡ false → P 2)
-    → (begins plantLine t ≡ true → devicesAt t .ok ≡ true → linesAt t .ok ≡ false → P 3)
-    → (begins plantLine t ≡ true → devicesAt t .ok ≡ true → linesAt t .ok ≡ true → P (rowsFault (linesAt t .value) (rowsAt t)))
-    → P (form t .line)
-unfolding form formDevices formLines
-form-by P t one two three four =
-    by-cond (λ (f : Form). P (f .line)) (begins plantLine t)
-    (λ e. by-cond (λ (f : Form). P (f .line)) (devicesAt t .ok) (λ o. by-cond (λ (f : Form). P (f .line)) (linesAt t .ok) (four e o) (three e o)) (two e))
-    one
-
 -- end=plant stands after m good rows
 abbrev Ended : ℕ → List ℕ → Type 0
 Ended m l = (goodRows m l ≡ m) × (begins endLine (drop (usedRows m l) l) ≡ true)
@@ -92,24 +81,37 @@ rows-by P m l stops none more =
 abbrev Past : ℕ → ℕ → Type 0
 Past k line = (line ≡ 0 → ⊥) → k < line
 
+rows-some : (k m : ℕ) (l : List ℕ) → k < 4 → Past k (rowsFault m l)
+rows-some k m l h = rows-by (Past k) m l (λ x z. omega arith) (λ z. absurd (z refl)) (λ x z. omega arith)
+
 plant-past : (l : List ℕ) → Past 1 (form (plantLine ++ l) .line)
+unfolding form formDevices formLines
 plant-past l =
-    form-by (Past 1) (plantLine ++ l)
+    by-cond past (begins plantLine t)
+    (λ e. by-cond past (devicesAt t .ok) (λ o. by-cond past (linesAt t .ok) (λ q. rows-some 1 _ _ (omega arith)) (λ q z. omega arith)) (λ o z. omega arith))
     (λ e. absurd (true≢false (sym (begins-self plantLine l) ∙ e)))
-    (λ e o z. omega arith)
-    (λ e o q z. omega arith)
-    (λ e o q. rows-by (Past 1) _ _ (λ x z. omega arith) (λ z. absurd (z refl)) (λ x z. omega arith))
+  where
+    t : List ℕ
+    t = plantLine ++ l
+
+    past : Form → Type 0
+    past f = Past 1 (f .line)
 
 devices-past : (n : ℕ) (l : List ℕ) → n < 1000000000 → Past 2 (form (plantLine ++ (fieldText devicesKey newline n ++ l)) .line)
+unfolding form formDevices formLines
 devices-past n l h =
-    form-by (Past 2) t
+    by-cond past (begins plantLine t)
+    (λ e.
+    by-cond past (devicesAt t .ok)
+    (λ o. by-cond past (linesAt t .ok) (λ q. rows-some 2 _ _ (omega arith)) (λ q z. omega arith))
+    (λ o. absurd (true≢false (sym (ap (λ (v : Number). v .ok) (field-reads devicesKey 10 n l no-newline h)) ∙ o))))
     (λ e. absurd (true≢false (sym (begins-self plantLine (fieldText devicesKey newline n ++ l)) ∙ e)))
-    (λ e o. absurd (true≢false (sym (ap (λ (v : Number). v .ok) (field-reads devicesKey 10 n l no-newline h)) ∙ o)))
-    (λ e o q z. omega arith)
-    (λ e o q. rows-by (Past 2) _ _ (λ x z. omega arith) (λ z. absurd (z refl)) (λ x z. omega arith))
   where
     t : List ℕ
     t = plantLine ++ (fieldText devicesKey newline n ++ l)
+
+    past : Form → Type 0
+    past f = Past 2 (f .line)
 
 -- where the first j rows of three lists stand, as many are good
 good-least : (xs ys zs e rest : List ℕ) (j : ℕ) → length xs ≡ length ys → length ys ≡ length zs → Small xs → Small ys → Small zs → j ≤ length xs
@@ -324,22 +326,28 @@ end-written m l x =
 
 -- the text lines before the one that the form names are as expected
 pub form-before : (t : List ℕ) → (form t .line ≡ 0 → ⊥) → Expected t (form t .line - 1)
+unfolding form formDevices formLines
 form-before t =
-    form-by before t
-    (λ e z. none-expected 0 0 [] [] t small small)
-    (λ e o z. plant-expected 0 0 [] (drop 8 t) t small small (begins-split plantLine t e))
-    (λ e o q z. devices-expected n 0 [] (drop (8 + devicesAt t .used) t) t hn small (devices-written t e o))
-    (λ e o q.
-    rows-by before m l
+    by-cond before (begins plantLine t)
+    (λ e.
+    by-cond before (devicesAt t .ok)
+    (λ o.
+    by-cond before (linesAt t .ok)
+    (λ q.
+    rows-by (λ k. (k ≡ 0 → ⊥) → Expected t (k - 1)) m l
     (λ x z.
-    subst (Expected t) (omega arith) (lines-expected n m l (drop (usedRows m l) l) t hn hm (goodRows m l) (omega (arith, rows-most m l)) (lines-written t e o q) (good-written m l endLine)))
+    subst (Expected t) (omega arith)
+    (lines-expected n m l (drop (usedRows m l) l) t hn hm (goodRows m l) (omega (arith, rows-most m l)) (lines-written t e o q) (good-written m l endLine)))
     (λ z. absurd (z refl))
     (λ x z.
     subst (Expected t) (omega arith)
     (lines-expected n m l (drop 10 (drop (usedRows m l) l)) t hn hm (suc m) (omega arith) (lines-written t e o q) (end-written m l x))))
+    (λ q z. devices-expected n 0 [] (drop (8 + devicesAt t .used) t) t hn small (devices-written t e o)))
+    (λ o z. plant-expected 0 0 [] (drop 8 t) t small small (begins-split plantLine t e)))
+    (λ e z. none-expected 0 0 [] [] t small small)
   where
-    before : ℕ → Type 0
-    before k = (k ≡ 0 → ⊥) → Expected t (k - 1)
+    before : Form → Type 0
+    before f = (f .line ≡ 0 → ⊥) → Expected t (f .line - 1)
 
     n : ℕ
     n = devicesAt t .value
@@ -358,3 +366,19 @@ form-before t =
 
     hm : m < 1000000000
     hm = field-small linesKey newline (drop (8 + devicesAt t .used) t)
+
+-- the two stated numbers have at most nine digits
+form-small : (t : List ℕ) → (form t .devices < 1000000000) × (form t .lines < 1000000000)
+unfolding form formDevices formLines
+form-small t =
+    by-cond small (begins plantLine t)
+    (λ e. by-cond small (devicesAt t .ok) (λ o. by-cond small (linesAt t .ok) (λ q. (field-small devicesKey newline (drop 8 t), field-small linesKey newline _)) (λ q. omega arith)) (λ o. omega arith))
+    (λ e. omega arith)
+  where
+    small : Form → Type 0
+    small f = (f .devices < 1000000000) × (f .lines < 1000000000)
+
+-- a text whose form names no text line is of the right form
+pub form-stated : (t : List ℕ) → form t .line ≡ 0 → RightForm t
+unfolding valuesOf
+form-stated t h = subst RightForm (form-written t h) (stating-right (form t .devices) (form t .lines) (drop (form t .at) t) (form-small t .0) (form-small t .1))
