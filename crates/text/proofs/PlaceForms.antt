@@ -1,31 +1,27 @@
--- How far a text is as expected, and what its form says.
+-- How far a text is as expected: where its first k text lines are, its form names none of them.
 --     expected, expected-front     a text whose first k text lines are as expected begins with those of a text of the right form
---     form-past                    then its form names no text line up to k
---     form-before                  the text lines before the one that its form names are as expected
+--     rows-by                      the text line that the rows and the end name, by cases
+--     form-past                    what the form names comes after the text lines that are as expected
 -- Assumes nothing.
-use Prim.Native.Nat.{ℕ, zero, suc, _+_, _-_, _≤_, _<_, zero-le, suc-le-suc}
+use Prim.Native.Nat.{ℕ, zero, suc, _+_, _≤_, _<_, zero-le, suc-le-suc}
 use native.Mathlib.Nat.{suc-ne-zero, eq-or-lt-of-le, le-of-suc-le-suc, not-suc-le-zero}
 use native.Mathlib.Omega.{arith}
 use mathlib.Core.Path.{_≡_, refl, sym, ap, subst, _∙_}
-use mathlib.Core.Bool.{Bool, true, false, cond, true≢false}
-use mathlib.Core.Logic.{_⊎_, ⊎-elim}
-use mathlib.Core.List.{List, [], _∷_, _++_, append-assoc, append-nil}
+use mathlib.Core.Bool.{true, false, true≢false}
+use mathlib.Core.Logic.{⊎-elim}
+use mathlib.Core.List.{List, [], _∷_, _++_, append-assoc}
 use lib.Dec.{eqb}
-use lib.ListN.{length, getD, drop}
-use lib.Seq.{drop-drop, drop-append-seam}
-use borrow.Author.Tests.{eqb-true, eqb-false, eq-eqb}
-use Rattle.text.specs.declared.Row.{Row}
+use lib.ListN.{length, drop}
+use lib.Seq.{drop-append-seam}
+use borrow.Author.Tests.{eqb-true, eqb-false}
 use Rattle.text.specs.declared.Number.{Number}
 use Rattle.text.specs.declared.Form.{Form}
-use Rattle.text.specs.Lines.{plantLine, devicesKey, linesKey, lineKey, endLine, newline, comma, begins, fieldText, field, rowText, rowOf, rowSecond, rowFirst, row}
-use Rattle.text.specs.Form.{rowsText, plantText, goodRows, usedRows, column, endFault, rowsFault, wrongLine, formLines, formDevices, form}
-use Rattle.text.specs.Reading.{valuesOf}
+use Rattle.text.specs.Lines.{plantLine, devicesKey, linesKey, endLine, newline, begins, fieldText, rowText}
+use Rattle.text.specs.Form.{rowsText, plantText, goodRows, usedRows, endFault, rowsFault, formLines, formDevices, form}
 use Rattle.text.specs.Place.{textLines, firstLines, Small, RightForm, Expected}
-use Rattle.text.proofs.Fields.{by-cond, field-small}
-use Rattle.text.proofs.Forms.{rows-most}
-use Rattle.text.proofs.Judged.{column-length}
-use Rattle.text.proofs.LineLaws.{begins-self, begins-split, no-newline, field-reads, row-reads, row-written}
-use Rattle.text.proofs.TextLaws.{RowsRead, rows-read, rows-written, devicesAt, linesAt, rowsAt, form-written, devices-written, lines-written, form-is}
+use Rattle.text.proofs.Fields.{by-cond}
+use Rattle.text.proofs.LineLaws.{begins-self, begins-split, no-newline, field-reads, row-reads}
+use Rattle.text.proofs.TextLaws.{RowsRead, rows-read, devicesAt, linesAt, form-is}
 use Rattle.text.proofs.PlaceLines.{first-begins, first-again, first-count, line-first, row-line, rows-end, words-plant, words-devices, words-lines, words-count}
 
 -- a text that begins with the first k text lines of a text of the right form
@@ -59,14 +55,17 @@ module _ {t : List ℕ} {k : ℕ} (x : Expected t k) where
         has = omega (arith, x .has);
         whole = x .whole;
         right = x .right;
-        begin = let same : firstLines j (x .whole) ≡ firstLines j t = rw (sym whole-is) (first-again j k t rest h (omega (arith, x .has))) in rw (sym same) (first-begins j (x .whole));
+        begin = rw (sym same) (first-begins j (x .whole));
       }
+    where
+      same : firstLines j (x .whole) ≡ firstLines j t
+      same = rw (sym whole-is) (first-again j k t rest h (omega (arith, x .has)))
 
 -- end=plant stands after m good rows
-abbrev Ended : ℕ → List ℕ → Type 0
+abbrev pub Ended : ℕ → List ℕ → Type 0
 Ended m l = (goodRows m l ≡ m) × (begins endLine (drop (usedRows m l) l) ≡ true)
 
-rows-by : (P : ℕ → Type 0) (m : ℕ) (l : List ℕ) → ((Ended m l → ⊥) → P (4 + goodRows m l)) → P 0 → (Ended m l → P (5 + m)) → P (rowsFault m l)
+pub rows-by : (P : ℕ → Type 0) (m : ℕ) (l : List ℕ) → ((Ended m l → ⊥) → P (4 + goodRows m l)) → P 0 → (Ended m l → P (5 + m)) → P (rowsFault m l)
 unfolding rowsFault endFault
 rows-by P m l stops none more =
     by-cond P (eqb (goodRows m l) m)
@@ -84,34 +83,24 @@ Past k line = (line ≡ 0 → ⊥) → k < line
 rows-some : (k m : ℕ) (l : List ℕ) → k < 4 → Past k (rowsFault m l)
 rows-some k m l h = rows-by (Past k) m l (λ x z. omega arith) (λ z. absurd (z refl)) (λ x z. omega arith)
 
-plant-past : (l : List ℕ) → Past 1 (form (plantLine ++ l) .line)
+-- plant=1 stands, and the devices too unless k is 1
+early-past : (k : ℕ) (t : List ℕ) → k < 3 → begins plantLine t ≡ true → (devicesAt t .ok ≡ false → k < 2) → Past k (form t .line)
 unfolding form formDevices formLines
-plant-past l =
+early-past k t h plant devices =
     by-cond past (begins plantLine t)
-    (λ e. by-cond past (devicesAt t .ok) (λ o. by-cond past (linesAt t .ok) (λ q. rows-some 1 _ _ (omega arith)) (λ q z. omega arith)) (λ o z. omega arith))
-    (λ e. absurd (true≢false (sym (begins-self plantLine l) ∙ e)))
+    (λ e. by-cond past (devicesAt t .ok) (λ o. by-cond past (linesAt t .ok) (λ q. rows-some k _ _ (omega arith)) (λ q z. omega arith)) (λ o z. devices o))
+    (λ e. absurd (true≢false (sym plant ∙ e)))
   where
-    t : List ℕ
-    t = plantLine ++ l
-
     past : Form → Type 0
-    past f = Past 1 (f .line)
+    past f = Past k (f .line)
+
+plant-past : (l : List ℕ) → Past 1 (form (plantLine ++ l) .line)
+plant-past l = early-past 1 (plantLine ++ l) (omega arith) (begins-self plantLine l) (λ o. omega arith)
 
 devices-past : (n : ℕ) (l : List ℕ) → n < 1000000000 → Past 2 (form (plantLine ++ (fieldText devicesKey newline n ++ l)) .line)
-unfolding form formDevices formLines
 devices-past n l h =
-    by-cond past (begins plantLine t)
-    (λ e.
-    by-cond past (devicesAt t .ok)
-    (λ o. by-cond past (linesAt t .ok) (λ q. rows-some 2 _ _ (omega arith)) (λ q z. omega arith))
-    (λ o. absurd (true≢false (sym (ap (λ (v : Number). v .ok) (field-reads devicesKey 10 n l no-newline h)) ∙ o))))
-    (λ e. absurd (true≢false (sym (begins-self plantLine (fieldText devicesKey newline n ++ l)) ∙ e)))
-  where
-    t : List ℕ
-    t = plantLine ++ (fieldText devicesKey newline n ++ l)
-
-    past : Form → Type 0
-    past f = Past 2 (f .line)
+    early-past 2 (plantLine ++ (fieldText devicesKey newline n ++ l)) (omega arith) (begins-self plantLine (fieldText devicesKey newline n ++ l))
+    (λ o. absurd (true≢false (sym (ap (λ (v : Number). v .ok) (field-reads devicesKey 10 n l no-newline h)) ∙ o)))
 
 -- where the first j rows of three lists stand, as many are good
 good-least : (xs ys zs e rest : List ℕ) (j : ℕ) → length xs ≡ length ys → length ys ≡ length zs → Small xs → Small ys → Small zs → j ≤ length xs
@@ -153,8 +142,11 @@ module _ {w : List ℕ} (r : RightForm w) (rest : List ℕ) where
       ⊎-elim
       (λ e. absurd (x (rw e ended)))
       (λ l.
-      let good : _ = good-least (r .firsts) (r .seconds) (r .signals) endLine rest j (r .one-length) (r .one-length′) (r .small-firsts) (r .small-seconds) (r .small-signals) (le-of-suc-le-suc l) in
-      omega arith)
+      omega (
+        arith,
+        good-least (r .firsts) (r .seconds) (r .signals) endLine rest j
+            (r .one-length) (r .one-length′) (r .small-firsts) (r .small-seconds) (r .small-signals) (le-of-suc-le-suc l),
+      ))
       (eq-or-lt-of-le h))
       (λ z. absurd (z refl))
       (λ x z. omega arith)
@@ -189,196 +181,3 @@ form-past {t} {k} x =
     omega (arith, expected-has x, words-count (r .devices) (r .firsts) (r .seconds) (r .signals) (r .one-length) (r .one-length′), ap textLines (r .text)) in
     subst (λ (u : List ℕ). Past k (form u .line)) (ap (λ (u : List ℕ). firstLines k u ++ drop (length (firstLines k t)) t) (sym (r .text)) ∙ expected-front x)
     (text-past r (drop (length (firstLines k t)) t) k few)
-
--- the numbers of a row have at most nine digits, and so do those of the rows
-abbrev RowSmall : Row → Type 0
-RowSmall r = (r .first < 1000000000) × (r .second < 1000000000) × (r .signals < 1000000000)
-
-row-small : (l : List ℕ) → RowSmall (row l)
-unfolding row rowFirst rowSecond rowOf
-row-small l =
-    by-cond RowSmall (a .ok)
-    (λ p. by-cond RowSmall (b .ok) (λ q. by-cond RowSmall (s .ok) (λ r. (field-small lineKey comma l, field-small [] comma _, field-small [] newline _)) (λ r. none)) (λ q. none))
-    (λ p. none)
-  where
-    a : Number
-    a = field lineKey comma l
-
-    b : Number
-    b = field [] comma (drop (a .used) l)
-
-    s : Number
-    s = field [] newline (drop (a .used + b .used) l)
-
-    none : (0 < 1000000000) × (0 < 1000000000) × (0 < 1000000000)
-    none = omega arith
-
-column-small : (f : Row → ℕ) → ((l : List ℕ) → f (row l) < 1000000000) → (m : ℕ) (l : List ℕ) → Small (column f m l)
-unfolding column
-column-small f h zero l k less = absurd (not-suc-le-zero less)
-column-small f h (suc m) l zero less = h l
-column-small f h (suc m) l (suc k) less = column-small f h m (drop (row l .used) l) k (le-of-suc-le-suc less)
-
-column-same : (f g : Row → ℕ) (m : ℕ) (l : List ℕ) → length (column f m l) ≡ length (column g m l)
-column-same f g m l = column-length f m l ∙ sym (column-length g m l)
-
--- the text of n and of the numbers of m rows, whether or not those are good
-abbrev stating : ℕ → ℕ → List ℕ → List ℕ
-stating n m l = plantText n (column (λ w. w .first) m l) (column (λ w. w .second) m l) (column (λ w. w .signals) m l)
-
-pub stating-right : (n m : ℕ) (l : List ℕ) → n < 1000000000 → m < 1000000000 → RightForm (stating n m l)
-stating-right n m l hn hm =
-    record {
-      devices = n;
-      firsts = column (λ w. w .first) m l;
-      seconds = column (λ w. w .second) m l;
-      signals = column (λ w. w .signals) m l;
-      one-length = column-same _ _ m l;
-      one-length′ = column-same _ _ m l;
-      small-devices = hn;
-      small-lines = rw (column-length (λ w. w .first) m l) hm;
-      small-firsts = column-small (λ w. w .first) (λ l. row-small l .0) m l;
-      small-seconds = column-small (λ w. w .second) (λ l. row-small l .1) m l;
-      small-signals = column-small (λ w. w .signals) (λ l. row-small l .2) m l;
-      text = refl;
-    }
-
--- a row that is read is the first text line here, and then come g text lines, in n bytes
-good-then : (l : List ℕ) (g n : ℕ) (r e : List ℕ) → firstLines g (r ++ e) ++ drop n (drop (row l .used) l) ≡ drop (row l .used) l
-    → firstLines (cond (row l .ok) (suc g) 0) (rowText (row l .first) (row l .second) (row l .signals) ++ r ++ e) ++ drop (cond (row l .ok) (row l .used + n) 0) l ≡ l
-unfolding firstLines
-good-then l g n r e ih = go (row l .ok) refl
-  where
-    here : List ℕ
-    here = rowText (row l .first) (row l .second) (row l .signals)
-
-    go : (b : Bool) → row l .ok ≡ b → firstLines (cond b (suc g) 0) (here ++ r ++ e) ++ drop (cond b (row l .used + n) 0) l ≡ l
-    go true o =
-        rw (append-assoc here r e, line-first (row-line (row l .first) (row l .second) (row l .signals)) g (r ++ e), ← drop-drop n (row l .used) l)
-        (append-assoc here (firstLines g (r ++ e)) _ ∙ rw ih (row-written l o))
-    go false o = refl
-
--- the good rows are the first text lines of the rows that are stated
-good-written : (m : ℕ) (l e : List ℕ)
-    → firstLines (goodRows m l) (rowsText (column (λ w. w .first) m l) (column (λ w. w .second) m l) (column (λ w. w .signals) m l) ++ e)
-    ++ drop (usedRows m l) l
-    ≡ l
-unfolding goodRows usedRows rowsText column firstLines
-good-written zero l e = refl
-good-written (suc m) l e = good-then l _ _ _ e (good-written m (drop (row l .used) l) e)
-
--- a text that begins as the text of n and of the numbers of m rows l does
-module _ (n m : ℕ) (l rest t : List ℕ) (hn : n < 1000000000) (hm : m < 1000000000) where
-  abbrev ps : List ℕ
-  ps = column (λ w. w .first) m l
-
-  abbrev qs : List ℕ
-  qs = column (λ w. w .second) m l
-
-  abbrev ss : List ℕ
-  ss = column (λ w. w .signals) m l
-
-  right : RightForm (stating n m l)
-  right = stating-right n m l hn hm
-
-  stating-count : textLines (stating n m l) ≡ 4 + m
-  stating-count = words-count n ps qs ss (column-same _ _ m l) (column-same _ _ m l) ∙ rw (column-length (λ w. w .first) m l) refl
-
-  none-expected : Expected t 0
-  unfolding firstLines
-  none-expected = expected 0 t t right zero-le refl
-
-  plant-expected : plantLine ++ rest ≡ t → Expected t 1
-  unfolding firstLines
-  plant-expected e =
-      expected 1 rest t right (omega (arith, stating-count)) (rw (words-plant n ps qs ss 0) e)
-
-  devices-expected : plantLine ++ (fieldText devicesKey newline n ++ rest) ≡ t → Expected t 2
-  unfolding firstLines
-  devices-expected e =
-      expected 2 rest t right (omega (arith, stating-count))
-      (rw (words-devices n ps qs ss 0, append-nil (fieldText devicesKey newline n)) e)
-
-  lines-expected : (j : ℕ) → j ≤ suc m → plantLine ++ (fieldText devicesKey newline n ++ (fieldText linesKey newline m ++ l)) ≡ t
-      → firstLines j (rowsText ps qs ss ++ endLine) ++ rest ≡ l → Expected t (3 + j)
-  lines-expected j h e q =
-      let f : List ℕ = fieldText devicesKey newline n in
-      let g : List ℕ = fieldText linesKey newline m in
-      let rows : List ℕ = firstLines j (rowsText ps qs ss ++ endLine) in
-      let three : suc (suc (suc j)) ≡ 3 + j = omega arith in
-      subst (Expected t) three
-      (expected (suc (suc (suc j))) rest t right (omega (arith, stating-count))
-      (rw (words-lines n ps qs ss j, column-length (λ w. w .first) m l, append-assoc f (g ++ rows) rest, append-assoc g rows rest, q) e))
-
--- and where end=plant follows, the rows and the end are all of them
-end-written : (m : ℕ) (l : List ℕ) → Ended m l
-    → firstLines (suc m) (rowsText (column (λ w. w .first) m l) (column (λ w. w .second) m l) (column (λ w. w .signals) m l) ++ endLine)
-    ++ drop 10 (drop (usedRows m l) l)
-    ≡ l
-end-written m l x =
-    let e : firstLines (suc m) (rows ++ endLine) ≡ rows ++ endLine =
-    ap (λ (k : ℕ). firstLines (suc k) (rows ++ endLine)) (sym (column-length (λ w. w .first) m l)) ∙ rows-end 0 _ _ _ (column-same _ _ m l) (column-same _ _ m l) in
-    rw (e, append-assoc rows endLine (drop 10 (drop (usedRows m l) l)))
-    (ap (λ (u : List ℕ). rows ++ u) (begins-split endLine (drop (usedRows m l) l) (x .1)) ∙ rows-written m l (x .0))
-  where
-    rows : List ℕ
-    rows = rowsText (column (λ w. w .first) m l) (column (λ w. w .second) m l) (column (λ w. w .signals) m l)
-
--- the text lines before the one that the form names are as expected
-pub form-before : (t : List ℕ) → (form t .line ≡ 0 → ⊥) → Expected t (form t .line - 1)
-unfolding form formDevices formLines
-form-before t =
-    by-cond before (begins plantLine t)
-    (λ e.
-    by-cond before (devicesAt t .ok)
-    (λ o.
-    by-cond before (linesAt t .ok)
-    (λ q.
-    rows-by (λ k. (k ≡ 0 → ⊥) → Expected t (k - 1)) m l
-    (λ x z.
-    subst (Expected t) (omega arith)
-    (lines-expected n m l (drop (usedRows m l) l) t hn hm (goodRows m l) (omega (arith, rows-most m l)) (lines-written t e o q) (good-written m l endLine)))
-    (λ z. absurd (z refl))
-    (λ x z.
-    subst (Expected t) (omega arith)
-    (lines-expected n m l (drop 10 (drop (usedRows m l) l)) t hn hm (suc m) (omega arith) (lines-written t e o q) (end-written m l x))))
-    (λ q z. devices-expected n 0 [] (drop (8 + devicesAt t .used) t) t hn small (devices-written t e o)))
-    (λ o z. plant-expected 0 0 [] (drop 8 t) t small small (begins-split plantLine t e)))
-    (λ e z. none-expected 0 0 [] [] t small small)
-  where
-    before : Form → Type 0
-    before f = (f .line ≡ 0 → ⊥) → Expected t (f .line - 1)
-
-    n : ℕ
-    n = devicesAt t .value
-
-    m : ℕ
-    m = linesAt t .value
-
-    l : List ℕ
-    l = rowsAt t
-
-    small : 0 < 1000000000
-    small = omega arith
-
-    hn : n < 1000000000
-    hn = field-small devicesKey newline (drop 8 t)
-
-    hm : m < 1000000000
-    hm = field-small linesKey newline (drop (8 + devicesAt t .used) t)
-
--- the two stated numbers have at most nine digits
-form-small : (t : List ℕ) → (form t .devices < 1000000000) × (form t .lines < 1000000000)
-unfolding form formDevices formLines
-form-small t =
-    by-cond small (begins plantLine t)
-    (λ e. by-cond small (devicesAt t .ok) (λ o. by-cond small (linesAt t .ok) (λ q. (field-small devicesKey newline (drop 8 t), field-small linesKey newline _)) (λ q. omega arith)) (λ o. omega arith))
-    (λ e. omega arith)
-  where
-    small : Form → Type 0
-    small f = (f .devices < 1000000000) × (f .lines < 1000000000)
-
--- a text whose form names no text line is of the right form
-pub form-stated : (t : List ℕ) → form t .line ≡ 0 → RightForm t
-unfolding valuesOf
-form-stated t h = subst RightForm (form-written t h) (stating-right (form t .devices) (form t .lines) (drop (form t .at) t) (form-small t .0) (form-small t .1))

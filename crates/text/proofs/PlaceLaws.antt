@@ -5,28 +5,28 @@
 --     fifteen-exactly     reading a text of at most 32,768 bytes gives 15 at k exactly if k is its place
 --     read-fifteen        so does the contract of reading
 -- Assumes nothing.
-use Prim.Native.Nat.{ℕ, zero, suc, _-_, _≤_, _<_}
+use Prim.Native.Nat.{ℕ, zero, suc, _≤_, _<_}
 use native.Mathlib.Nat.{le-antisymm}
 use native.Mathlib.Omega.{arith}
 use mathlib.Core.Path.{_≡_, refl, sym, ap, subst, _∙_}
-use mathlib.Core.Bool.{Bool, true, false, not, cond}
+use mathlib.Core.Bool.{Bool, true, false, not}
 use mathlib.Core.Logic.{_↔_}
-use mathlib.Core.List.{List, []}
-use lib.Dec.{ltb, eqb}
+use mathlib.Core.List.{List}
+use lib.Dec.{eqb}
 use lib.ListN.{length}
-use borrow.Author.Tests.{eqb-false, ltb-false, not-true}
+use borrow.Author.Tests.{eqb-false, not-true}
 use Rattle.rules.specs.declared.Refusal.{Refusal}
 use Rattle.rules.specs.Refusals.{done, cause, orElse, firstOf, devicesFault, listsFault, lineFault, linesFrom, linesFault}
 use Rattle.text.specs.declared.Reading.{Reading}
-use Rattle.text.specs.declared.Form.{Form}
-use Rattle.text.specs.Form.{plantText, form}
+use Rattle.text.specs.Form.{form}
 use Rattle.text.specs.Lines.{endLine}
-use Rattle.text.specs.Reading.{longFault, formFault, roomsFault, readFault, readAnswer, refusedWith, ReadIs, sizeFault, headFault}
-use Rattle.text.specs.Place.{RightForm, Expected, Place}
+use Rattle.text.specs.Reading.{longFault, formFault, roomsFault, readFault, readAnswer, ReadIs, sizeFault, headFault}
+use Rattle.text.specs.Place.{RightForm, Place}
 use Rattle.text.proofs.Fields.{by-cond}
 use Rattle.text.proofs.Judged.{form-wrong, done-next, read-order, long-not}
-use Rattle.text.proofs.TextLaws.{TextRead, rows-read, text-read}
-use Rattle.text.proofs.PlaceForms.{expected-less, form-past, form-before, form-stated}
+use Rattle.text.proofs.TextLaws.{rows-read, text-read}
+use Rattle.text.proofs.PlaceForms.{expected-less, form-past}
+use Rattle.text.proofs.PlaceStated.{form-before, form-stated}
 
 pub form-none : (t : List ℕ) → form t .line ≡ 0 ↔ RightForm t
 form-none t = (form-stated t, back)
@@ -57,9 +57,10 @@ form-names t h =
     }
 
 pub form-place : (t : List ℕ) (k : ℕ) → (form t .line ≡ k) × (k ≡ 0 → ⊥) ↔ Place t k
-form-place t k =
-    (λ x. subst (Place t) (x .0) (form-names t (λ z. x .1 (sym (x .0) ∙ z))),
-    λ p. (place-one (form-names t (λ z. p .wrong (form-none t .0 z))) p, λ z. omega (arith, p .from-one, z)))
+form-place t k = (
+  λ x. subst (Place t) (x .0) (form-names t (λ z. x .1 (sym (x .0) ∙ z))),
+  λ p. (place-one (form-names t (λ z. p .wrong (form-none t .0 z))) p, λ z. omega (arith, p .from-one, z)),
+)
 
 -- where a refusal is 15, it is at the text line that the form names
 record Says (line : ℕ) (r : Refusal) : Type 0 where
@@ -125,11 +126,12 @@ fifteen-exactly t a b c k h =
 pub read-fifteen : {t xs ys zs us vs ws : List ℕ} {r : Reading} (k : ℕ) → ReadIs t xs ys zs r us vs ws → length t ≤ 32768
     → (r .number ≡ 15) × (r .place ≡ k) ↔ Place t k
 unfolding readAnswer
-read-fifteen {t} {xs} {ys} {zs} {r = r} k i h =
-    (λ e. fifteen-exactly t _ _ _ k h .0 (λ i. record { number = (sym number ∙ e .0) i; place = (sym place ∙ e .1) i }),
-    λ p.
-    let e : readFault t (length xs) (length ys) (length zs) ≡ record { number = 15; place = k } = fifteen-exactly t _ _ _ k h .1 p in
-    (number ∙ ap (λ (x : Refusal). x .number) e, place ∙ ap (λ (x : Refusal). x .place) e))
+read-fifteen {t} {xs} {ys} {zs} {r = r} k i h = (
+  λ e. fifteen-exactly t _ _ _ k h .0 (λ i. record { number = (sym number ∙ e .0) i; place = (sym place ∙ e .1) i }),
+  λ p.
+      let e : readFault t (length xs) (length ys) (length zs) ≡ record { number = 15; place = k } = fifteen-exactly t _ _ _ k h .1 p in
+      (number ∙ ap (λ (x : Refusal). x .number) e, place ∙ ap (λ (x : Refusal). x .place) e),
+)
   where
     number : r .number ≡ readFault t (length xs) (length ys) (length zs) .number
     number = ap (λ (x : Reading). x .number) (i .answer)

@@ -10,7 +10,7 @@ use native.Mathlib.Nat.{suc-ne-zero, le-of-suc-le-suc, not-suc-le-zero}
 use native.Mathlib.Omega.{arith}
 use mathlib.Core.Path.{_≡_, refl, sym, ap, _∙_}
 use mathlib.Core.Bool.{Bool, true, false, cond}
-use mathlib.Core.List.{List, [], _∷_, _++_, append-assoc, append-nil}
+use mathlib.Core.List.{List, [], _∷_, _++_, append-assoc}
 use lib.Dec.{ltb, eqb}
 use lib.ListN.{length}
 use borrow.Author.Tests.{eq-eqb, ne-eqb}
@@ -39,8 +39,10 @@ first-again zero k t r h l = refl
 first-again (suc j) zero t r h l = absurd (not-suc-le-zero h)
 first-again (suc j) (suc k) [] r h l = absurd (not-suc-le-zero l)
 first-again (suc j) (suc k) (b ∷ t) r h l =
+    let rest : Bool → List ℕ = λ c. cond c (firstLines k t) (firstLines (suc k) t) ++ r in
     either
-    (λ c. suc j ≤ cond c (suc (textLines t)) (textLines t) → b ∷ cond c (firstLines j (cond c (firstLines k t) (firstLines (suc k) t) ++ r)) (firstLines (suc j) (cond c (firstLines k t) (firstLines (suc k) t) ++ r)) ≡ b ∷ cond c (firstLines j t) (firstLines (suc j) t))
+    (λ c. suc j ≤ cond c (suc (textLines t)) (textLines t)
+    → b ∷ cond c (firstLines j (rest c)) (firstLines (suc j) (rest c)) ≡ b ∷ cond c (firstLines j t) (firstLines (suc j) t))
     (eqb b 10)
     (λ l. ap (λ (u : List ℕ). b ∷ u) (first-again j k t r (le-of-suc-le-suc h) (le-of-suc-le-suc l)))
     (λ l. ap (λ (u : List ℕ). b ∷ u) (first-again (suc j) (suc k) t r h l))
@@ -51,8 +53,9 @@ unfolding firstLines textLines
 first-count zero t r l = zero-le
 first-count (suc k) [] r l = absurd (not-suc-le-zero l)
 first-count (suc k) (b ∷ t) r l =
+    let rest : Bool → List ℕ = λ c. cond c (firstLines k t) (firstLines (suc k) t) ++ r in
     either
-    (λ c. suc k ≤ cond c (suc (textLines t)) (textLines t) → suc k ≤ cond c (suc (textLines (cond c (firstLines k t) (firstLines (suc k) t) ++ r))) (textLines (cond c (firstLines k t) (firstLines (suc k) t) ++ r)))
+    (λ c. suc k ≤ cond c (suc (textLines t)) (textLines t) → suc k ≤ cond c (suc (textLines (rest c))) (textLines (rest c)))
     (eqb b 10)
     (λ l. suc-le-suc (first-count k t r (le-of-suc-le-suc l)))
     (λ l. first-count (suc k) t r l)
@@ -195,20 +198,20 @@ module _ (n : ℕ) (xs ys zs : List ℕ) where
     pub rows-end : firstLines (suc (length xs)) rows ≡ rows
     unfolding firstLines
     rows-end =
-      let e : suc (length xs) ≡ length xs + 1 = omega arith in
-      ap (λ (k : ℕ). firstLines k rows) e
-      ∙ rows-first xs ys zs endLine 1 p q
-      ∙ ap (λ (u : List ℕ). rowsText xs ys zs ++ u)
-      (line-first end-line 0 [])
+        let e : suc (length xs) ≡ length xs + 1 = omega arith in
+        ap (λ (k : ℕ). firstLines k rows) e
+        ∙ rows-first xs ys zs endLine 1 p q
+        ∙ ap (λ (u : List ℕ). rowsText xs ys zs ++ u)
+        (line-first end-line 0 [])
 
     pub words-count : textLines (plantText n xs ys zs) ≡ 4 + length xs
     unfolding textLines
     words-count =
-      rw (text-words n xs ys zs)
-      (omega (
-        arith,
-        line-count plant-line (f ++ (g ++ rows)),
-        line-count f-line (g ++ rows),
-        line-count g-line rows,
-        rows-count xs ys zs endLine p q,
-      ))
+        rw (text-words n xs ys zs)
+        (omega (
+          arith,
+          line-count plant-line (f ++ (g ++ rows)),
+          line-count f-line (g ++ rows),
+          line-count g-line rows,
+          rows-count xs ys zs endLine p q,
+        ))

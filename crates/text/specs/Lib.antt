@@ -4,7 +4,7 @@
 --     Form        the form of a whole text
 --     Reading     what reading a text answers and fills
 --     Writing     what writing a plant answers and fills
---     Place       the place of 15, said without reading; no contract names it, and laws of it hold
+--     Place       the place of 15, said once more without the reader's steps
 pub mod Numbers
 pub mod Lines
 pub mod Form

@@ -10,7 +10,7 @@ use lib.ListN.{length, getD}
 use Rattle.text.specs.Lines.{begins}
 use Rattle.text.specs.Form.{plantText}
 
--- "each ended by one newline byte": how many text lines a text has, bytes after the last newline being none
+-- "each ended by one newline byte": how many text lines a text has; bytes after the last newline are no text line
 unfoldable pub textLines : List ℕ → ℕ
 textLines [] = 0
 textLines (b ∷ t) = cond (eqb b 10) (suc (textLines t)) (textLines t)
