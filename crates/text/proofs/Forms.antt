@@ -14,6 +14,7 @@ use Rattle.text.specs.declared.Number.{Number}
 use Rattle.text.specs.declared.Row.{Row}
 use Rattle.text.specs.declared.Passed.{Passed}
 use Rattle.text.specs.declared.Form.{Form}
+use Rattle.text.specs.Numbers.{noNumber}
 use Rattle.text.specs.Lines.{plantLine, devicesKey, linesKey, endLine, newline, begins, field, row}
 use Rattle.text.specs.Form.{goodRows, usedRows, passed, endFault, rowsFault, wrongLine, formLines, formDevices, form}
 use Rattle.text.proofs.Fields.{by-cond, begins-fits, field-fits, field-small, row-fits}
@@ -135,9 +136,10 @@ module _ (t : List ℕ) {g : Bool} (e : g ≡ begins plantLine t) where
     pub devices-within : 8 + n .used ≤ length t
     devices-within = omega (arith, plant-within h, length-drop 8 t, field-fits devicesKey newline (drop 8 t), ap (λ (v : Number). v .used) d)
 
-    pub form-no-devices : not (n .ok) ≡ true → wrongLine 2 ≡ form t
+    -- x being what the definition says where no field stands: `PlaceLaws` shows which text line that has to be
+    pub form-no-devices : {x : Form} → not (n .ok) ≡ true → x ≡ formDevices t noNumber → x ≡ form t
     unfolding form formDevices
-    form-no-devices o = rw (sym e ∙ not-false g h, sym d, not-true (n .ok) o) refl
+    form-no-devices o z = z ∙ sym (rw (sym e ∙ not-false g h, sym d, not-true (n .ok) o) refl)
 
     module _ (o : not (n .ok) ≡ false) {m : Number} (f : m ≡ field linesKey newline (drop (8 + n .used) t)) where
       pub lines-within : 8 + n .used + m .used ≤ length t
@@ -153,9 +155,9 @@ module _ (t : List ℕ) {g : Bool} (e : g ≡ begins plantLine t) where
       pub lines-small : m .value < 1000000000
       lines-small = omega (arith, field-small linesKey newline (drop (8 + n .used) t), ap (λ (v : Number). v .value) f)
 
-      pub form-no-lines : not (m .ok) ≡ true → wrongLine 3 ≡ form t
+      pub form-no-lines : {x : Form} → not (m .ok) ≡ true → x ≡ formLines t (n .value) (8 + n .used) noNumber → x ≡ form t
       unfolding form formDevices formLines
-      form-no-lines q = rw (sym e ∙ not-false g h, sym d, not-false (n .ok) o, sym f, not-true (m .ok) q) refl
+      form-no-lines q z = z ∙ sym (rw (sym e ∙ not-false g h, sym d, not-false (n .ok) o, sym f, not-true (m .ok) q) refl)
 
       pub form-good : {line : ℕ} → not (m .ok) ≡ false → line ≡ rowsFault (m .value) (drop (8 + n .used + m .used) t)
           → record { line = line; devices = n .value; lines = m .value; at = 8 + n .used + m .used } ≡ form t

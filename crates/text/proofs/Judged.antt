@@ -137,7 +137,7 @@ plant-lines t h =
     )
     refl
 
-long-not : (n : ℕ) → n ≤ 32768 → longFault n ≡ done
+pub long-not : (n : ℕ) → n ≤ 32768 → longFault n ≡ done
 unfolding longFault cause
 long-not n h = rw (le-ltb 32768 n h) refl
 

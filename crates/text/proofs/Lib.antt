@@ -12,6 +12,10 @@
 --     TextLaws    rows and whole texts likewise
 --     Accepted    which texts are accepted, and what they state
 --     Laws        what reading and writing promise together
+--     PlaceLines  the text lines of a text, and of a text of the right form
+--     PlaceForms  the form of a text names no text line that is as expected
+--     PlaceStated the text lines before the one that it names are as expected
+--     PlaceLaws   the place of 15
 --     Examples    worked texts, computed
 pub mod Steps
 pub mod Fields
@@ -26,4 +30,8 @@ pub mod LineLaws
 pub mod TextLaws
 pub mod Accepted
 pub mod Laws
+pub mod PlaceLines
+pub mod PlaceForms
+pub mod PlaceStated
+pub mod PlaceLaws
 pub mod Examples

@@ -7,7 +7,7 @@ use mathlib.Core.Path.{_≡_, refl, sym, ap, _∙_}
 use mathlib.Core.Bool.{Bool, true, false, cond}
 use mathlib.Core.List.{List, [], _∷_, _++_, append-assoc, append-nil}
 use lib.Dec.{eqb}
-use lib.ListN.{length, getD, drop, length-append}
+use lib.ListN.{length, drop, length-append}
 use lib.Seq.{drop-drop, drop-append-seam}
 use borrow.Author.Tests.{eq-eqb, eqb-true}
 use Rattle.text.specs.declared.Number.{Number}
@@ -16,15 +16,12 @@ use Rattle.text.specs.declared.Form.{Form}
 use Rattle.text.specs.Lines.{plantLine, devicesKey, linesKey, endLine, newline, begins, fieldText, field, rowText, row}
 use Rattle.text.specs.Form.{rowsText, plantText, goodRows, usedRows, column, endFault, rowsFault, formLines, formDevices, form}
 use Rattle.text.specs.Reading.{valuesOf, firstsOf, secondsOf, signalsOf}
+use Rattle.text.specs.Place.{Small}
 use Rattle.text.proofs.Steps.{past}
 use Rattle.text.proofs.Fields.{by-cond}
 use Rattle.text.proofs.Forms.{form-good}
 use Rattle.text.proofs.Judged.{column-length}
 use Rattle.text.proofs.LineLaws.{begins-self, begins-split, no-newline, field-reads, field-written, row-reads, row-written}
-
--- every number of the list has at most nine digits
-abbrev pub Small : List ℕ → Type 0
-Small xs = (k : ℕ) → k < length xs → getD xs k 0 < 1000000000
 
 -- what reading finds where the rows of three lists stand, and then rest
 pub record RowsRead (xs ys zs rest : List ℕ) : Type 0 where
@@ -128,43 +125,56 @@ text-words n xs ys zs =
     let r : List ℕ = rowsText xs ys zs in
     append-assoc (plantLine ++ f ++ g) r endLine ∙ append-assoc (plantLine ++ f) g (r ++ endLine) ∙ append-assoc plantLine f (g ++ (r ++ endLine))
 
+-- the two fields of a text, and the bytes after them
+abbrev pub devicesAt : List ℕ → Number
+devicesAt t = field devicesKey newline (drop 8 t)
+
+abbrev pub linesAt : List ℕ → Number
+linesAt t = field linesKey newline (drop (8 + devicesAt t .used) t)
+
+abbrev pub rowsAt : List ℕ → List ℕ
+rowsAt t = drop (8 + devicesAt t .used + linesAt t .used) t
+
+-- where they are read, their text stands
+module _ (t : List ℕ) (e : begins plantLine t ≡ true) (o : devicesAt t .ok ≡ true) where
+  pub devices-written : plantLine ++ (fieldText devicesKey newline (devicesAt t .value) ++ drop (8 + devicesAt t .used) t) ≡ t
+  devices-written =
+      rw (sym (drop-drop (devicesAt t .used) 8 t))
+      (ap (λ (u : List ℕ). plantLine ++ u) (field-written devicesKey newline (drop 8 t) o) ∙ begins-split plantLine t e)
+
+  pub lines-written : linesAt t .ok ≡ true
+      → plantLine ++ (fieldText devicesKey newline (devicesAt t .value) ++ (fieldText linesKey newline (linesAt t .value) ++ rowsAt t)) ≡ t
+  lines-written q =
+      rw (sym (drop-drop (linesAt t .used) (8 + devicesAt t .used) t))
+      (ap (λ (u : List ℕ). plantLine ++ (fieldText devicesKey newline (devicesAt t .value) ++ u)) (field-written linesKey newline (drop (8 + devicesAt t .used) t) q)
+      ∙ devices-written)
+
 -- a text of the right form is the text of what it states
 pub form-written : (t : List ℕ) → form t .line ≡ 0
     → plantText (form t .devices) (firstsOf t) (secondsOf t) (signalsOf t) ≡ t
 unfolding form formDevices formLines valuesOf
 form-written t =
     by-cond written (begins plantLine t)
-    (λ e. by-cond written (d .ok) (λ o. by-cond written (m .ok) (λ q z. all e o q z) (λ q z. absurd (omega (arith, z)))) (λ o z. absurd (omega (arith, z))))
+    (λ e.
+    by-cond written (devicesAt t .ok)
+    (λ o. by-cond written (linesAt t .ok) (λ q z. all e o q z) (λ q z. absurd (omega (arith, z))))
+    (λ o z. absurd (omega (arith, z))))
     (λ e z. absurd (omega (arith, z)))
   where
-    d : Number
-    d = field devicesKey newline (drop 8 t)
-
-    m : Number
-    m = field linesKey newline (drop (8 + d .used) t)
-
     values : (Row → ℕ) → Form → List ℕ
     values g f = column g (f .lines) (drop (f .at) t)
 
     written : Form → Type 0
     written f = f .line ≡ 0 → plantText (f .devices) (values (λ w. w .first) f) (values (λ w. w .second) f) (values (λ w. w .signals) f) ≡ t
 
-    f : List ℕ
-    f = fieldText devicesKey newline (d .value)
+    column-of : (Row → ℕ) → List ℕ
+    column-of g = column g (linesAt t .value) (rowsAt t)
 
-    rest : List ℕ
-    rest = drop (8 + d .used + m .used) t
-
-    all : begins plantLine t ≡ true → d .ok ≡ true → m .ok ≡ true → rowsFault (m .value) rest ≡ 0
-        → plantText (d .value) (column (λ w. w .first) (m .value) rest) (column (λ w. w .second) (m .value) rest) (column (λ w. w .signals) (m .value) rest) ≡ t
+    all : begins plantLine t ≡ true → devicesAt t .ok ≡ true → linesAt t .ok ≡ true → rowsFault (linesAt t .value) (rowsAt t) ≡ 0
+        → plantText (devicesAt t .value) (column-of (λ w. w .first)) (column-of (λ w. w .second)) (column-of (λ w. w .signals)) ≡ t
     all e o q z =
         text-words _ _ _ _
-        ∙ ap (λ (u : List ℕ). plantLine ++ (f ++ (fieldText linesKey newline (length (column (λ w. w .first) (m .value) rest)) ++ u))) (rest-written (m .value) rest z)
-        ∙ ap (λ (k : ℕ). plantLine ++ (f ++ (fieldText linesKey newline k ++ rest))) (column-length (λ w. w .first) (m .value) rest)
-        ∙ ap (λ (u : List ℕ). plantLine ++ (f ++ (fieldText linesKey newline (m .value) ++ u))) (sym (drop-drop (m .used) (8 + d .used) t))
-        ∙ ap (λ (u : List ℕ). plantLine ++ (f ++ u)) (field-written linesKey newline (drop (8 + d .used) t) q ∙ sym (drop-drop (d .used) 8 t))
-        ∙ ap (λ (u : List ℕ). plantLine ++ u) (field-written devicesKey newline (drop 8 t) o)
-        ∙ begins-split plantLine t e
+        ∙ rw (rest-written (linesAt t .value) (rowsAt t) z, column-length (λ w. w .first) (linesAt t .value) (rowsAt t)) (lines-written t e o q)
 
 -- what reading finds in the text of a plant
 pub record TextRead (n : ℕ) (xs ys zs t : List ℕ) : Type 0 where
@@ -175,46 +185,50 @@ pub record TextRead (n : ℕ) (xs ys zs t : List ℕ) : Type 0 where
   pub seconds : secondsOf t ≡ ys
   pub signals : signalsOf t ≡ zs
 
-module _ (n : ℕ) (xs ys zs : List ℕ) (hn : n < 1000000000) (hm : length xs < 1000000000) (r : RowsRead xs ys zs endLine) where
+-- the form of a text whose first three text lines are as expected, whatever comes then
+module _ (n m : ℕ) (rest : List ℕ) (hn : n < 1000000000) (hm : m < 1000000000) where
   abbrev f : List ℕ
   f = fieldText devicesKey newline n
 
   abbrev g : List ℕ
-  g = fieldText linesKey newline (length xs)
+  g = fieldText linesKey newline m
 
+  abbrev t : List ℕ
+  t = plantLine ++ (f ++ (g ++ rest))
+
+  after-devices : drop (8 + length f) t ≡ g ++ rest
+  after-devices = sym (drop-drop (length f) 8 t) ∙ drop-append-seam f (g ++ rest)
+
+  after-lines : drop (8 + length f + length g) t ≡ rest
+  after-lines = sym (drop-drop (length g) (8 + length f) t) ∙ rw after-devices (drop-append-seam g rest)
+
+  pub form-is : record { line = rowsFault m rest; devices = n; lines = m; at = 8 + length f + length g } ≡ form t
+  form-is =
+      form-good t {g = true} (sym (begins-self plantLine (f ++ (g ++ rest)))) refl
+      {n = record { ok = true; value = n; used = length f }} (sym (field-reads devicesKey 10 n (g ++ rest) no-newline hn)) refl
+      {m = record { ok = true; value = m; used = length g }} (rw after-devices (sym (field-reads linesKey 10 m rest no-newline hm)))
+      {line = rowsFault m rest} refl (rw after-lines refl)
+
+module _ (n : ℕ) (xs ys zs : List ℕ) (hn : n < 1000000000) (hm : length xs < 1000000000) (r : RowsRead xs ys zs endLine) where
   abbrev rows : List ℕ
   rows = rowsText xs ys zs ++ endLine
 
-  abbrev t : List ℕ
-  t = plantLine ++ (f ++ (g ++ rows))
-
-  after-devices : drop (8 + length f) t ≡ g ++ rows
-  after-devices = sym (drop-drop (length f) 8 t) ∙ drop-append-seam f (g ++ rows)
-
-  after-lines : drop (8 + length f + length g) t ≡ rows
-  after-lines = sym (drop-drop (length g) (8 + length f) t) ∙ rw after-devices (drop-append-seam g rows)
-
-  rest-good : 0 ≡ rowsFault (length xs) (drop (8 + length f + length g) t)
+  rest-good : rowsFault (length xs) rows ≡ 0
   unfolding rowsFault endFault begins
-  rest-good =
-      sym (rw (after-lines, r .good, eq-eqb (length xs) (length xs) refl, r .bytes, drop-append-seam (rowsText xs ys zs) endLine) refl)
+  rest-good = rw (r .good, eq-eqb (length xs) (length xs) refl, r .bytes, drop-append-seam (rowsText xs ys zs) endLine) refl
 
-  form-is : record { line = 0; devices = n; lines = length xs; at = 8 + length f + length g } ≡ form t
-  form-is =
-      form-good t {g = true} (sym (begins-self plantLine (f ++ (g ++ rows)))) refl
-      {n = record { ok = true; value = n; used = length f }} (sym (field-reads devicesKey 10 n (g ++ rows) no-newline hn)) refl
-      {m = record { ok = true; value = length xs; used = length g }} (rw after-devices (sym (field-reads linesKey 10 (length xs) rows no-newline hm))) {line = 0} refl rest-good
-
-  words-read : TextRead n xs ys zs t
+  words-read : TextRead n xs ys zs (t n (length xs) rows hn hm)
   unfolding valuesOf
   words-read =
+      let e : _ = form-is n (length xs) rows hn hm in
+      let there : _ = after-lines n (length xs) rows hn hm in
       record {
-        line = rw (sym form-is) refl;
-        devices = rw (sym form-is) refl;
-        lines = rw (sym form-is) refl;
-        firsts = rw (sym form-is, after-lines) (r .firsts);
-        seconds = rw (sym form-is, after-lines) (r .seconds);
-        signals = rw (sym form-is, after-lines) (r .signals);
+        line = rw (sym e) rest-good;
+        devices = rw (sym e) refl;
+        lines = rw (sym e) refl;
+        firsts = rw (sym e, there) (r .firsts);
+        seconds = rw (sym e, there) (r .seconds);
+        signals = rw (sym e, there) (r .signals);
       }
 
   pub text-read : TextRead n xs ys zs (plantText n xs ys zs)

@@ -4,8 +4,10 @@
 --     Form        the form of a whole text
 --     Reading     what reading a text answers and fills
 --     Writing     what writing a plant answers and fills
+--     Place       the place of 15, said once more without the reader's steps
 pub mod Numbers
 pub mod Lines
 pub mod Form
 pub mod Reading
 pub mod Writing
+pub mod Place

@@ -5,19 +5,19 @@ mod whole;
 pub mod write;
 
 // The place in a text, beside the text itself.
-pub struct Cursor {
+pub(crate) struct Cursor {
     pub at: usize,
 }
 
 // What stands at a place, where a number should: whether it is one, its value, and how many bytes it takes.
-pub struct Number {
+pub(crate) struct Number {
     pub ok: bool,
     pub value: usize,
     pub used: usize,
 }
 
 // What stands at a place, where a row should.
-pub struct Row {
+pub(crate) struct Row {
     pub ok: bool,
     pub first: usize,
     pub second: usize,
@@ -26,13 +26,13 @@ pub struct Row {
 }
 
 // How many rows are as expected, and how many bytes they take.
-pub struct Passed {
+pub(crate) struct Passed {
     pub rows: usize,
     pub used: usize,
 }
 
 // The form of a text: the text line that is not as expected, or 0; the stated numbers; where the rows start.
-pub struct Form {
+pub(crate) struct Form {
     pub line: usize,
     pub devices: usize,
     pub lines: usize,

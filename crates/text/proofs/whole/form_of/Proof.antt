@@ -3,6 +3,7 @@
 use native.Mathlib.Omega.{arith}
 use mathlib.Core.Path.{_∙_}
 use borrow.Author.Needs.{needs}
+use Rattle.text.specs.Form.{formLines, formDevices}
 use Rattle.text.proofs.Forms.{form-no-plant, plant-within, devices-within, form-no-devices, lines-within, lines-small, form-no-lines, form-good}
 use Rattle.text.proofs.whole.form_of.Statement.{statement}
 use Rattle.text.proofs.whole.form_of.Tie as tie
@@ -39,12 +40,13 @@ wrong-line-requires-2 : tie.Need-wrong-line-requires-2
 wrong-line-requires-2 c κs = search needs
 
 returns-2 : tie.Need-returns-2
+unfolding formDevices
 returns-2 c =
     let at-field-at = c .before .before .before in
     let at-if1 = at-field-at .before .before .before in
     let at-goes-on = at-if1 .before in
     let start = at-goes-on .before .before .before in
-    c .wrong-line2 .ensures ∙ form-no-devices (start .args .text .now) (at-goes-on .goes-on .ensures) (at-if1 .if1 .left) (at-field-at .field-at .ensures) (c .before .if2 .taken)
+    form-no-devices (start .args .text .now) (at-goes-on .goes-on .ensures) (at-if1 .if1 .left) (at-field-at .field-at .ensures) (c .before .if2 .taken) (c .wrong-line2 .ensures)
 
 add-middle : tie.Need-add-middle
 add-middle c =
@@ -72,6 +74,7 @@ wrong-line-requires-3 : tie.Need-wrong-line-requires-3
 wrong-line-requires-3 c κs = search needs
 
 returns-3 : tie.Need-returns-3
+unfolding formLines
 returns-3 c =
     let at-field-at2 = c .before .before .before in
     let at-if2 = at-field-at2 .before .before .before .before in
@@ -79,7 +82,7 @@ returns-3 c =
     let at-if1 = at-field-at .before .before .before in
     let at-goes-on = at-if1 .before in
     let start = at-goes-on .before .before .before in
-    c .wrong-line3 .ensures ∙ form-no-lines (start .args .text .now) (at-goes-on .goes-on .ensures) (at-if1 .if1 .left) (at-field-at .field-at .ensures) (at-if2 .if2 .left) (at-field-at2 .field-at2 .ensures) (c .before .if3 .taken)
+    form-no-lines (start .args .text .now) (at-goes-on .goes-on .ensures) (at-if1 .if1 .left) (at-field-at .field-at .ensures) (at-if2 .if2 .left) (at-field-at2 .field-at2 .ensures) (c .before .if3 .taken) (c .wrong-line3 .ensures)
 
 add-start : tie.Need-add-start
 add-start c =
