@@ -23,7 +23,8 @@ use Rattle.text.specs.Lines.{endLine}
 use Rattle.text.specs.Reading.{longFault, formFault, roomsFault, readFault, readAnswer, ReadIs, sizeFault, headFault}
 use Rattle.text.specs.Place.{RightForm, Place}
 use Rattle.text.proofs.Fields.{by-cond}
-use Rattle.text.proofs.Judged.{form-wrong, done-next, read-order, long-not}
+use Rattle.rules.proofs.RefusalLaws.{done-next}
+use Rattle.text.proofs.Judged.{form-wrong, read-order, long-not}
 use Rattle.text.proofs.TextLaws.{rows-read, text-read}
 use Rattle.text.proofs.PlaceForms.{expected-less, form-past}
 use Rattle.text.proofs.PlaceStated.{form-before, form-stated}
