@@ -18,7 +18,7 @@ use Rattle.rules.specs.Groups.{table}
 use Rattle.rules.specs.Sweep.{sweep}
 use Rattle.rules.specs.Rates.{rateOk}
 use Rattle.rules.specs.Refusals.{done, cause, orElse, firstOf, rateFault, deviceFault, roomFault, afterPlant, about, nothing, plantSays, plantFault, Accepted}
-use Rattle.rules.proofs.RefusalLaws.{done-next, call-is, call-plant, call-rest, accepted-sound, done-accepted, plant-clean}
+use Rattle.rules.proofs.RefusalLaws.{done-next, call-is, call-plant, call-rest, accepted-sound}
 use Rattle.rules.proofs.Communities.{fence-off}
 use Rattle.rules.proofs.Sweep.{sweep-takes, sweep-passes, sweep-keeps}
 use Rattle.cut.specs.declared.community.Answer.{Answer}
@@ -28,10 +28,6 @@ use Rattle.cut.specs.Calls.{marksOf, communityFault, communityAnswer, co
 use Rattle.cut.proofs.CheckLaws.{at}
 use Rattle.rules.proofs.FillLaws.{over-agree, over-front, over-size, over-over}
 use Rattle.cut.proofs.SpareLaws.{marks-size, marks-out}
-
--- a plant with number 0 is accepted
-pub plant-accepted : (n : ℕ) (xs ys zs : List ℕ) (r : Refusal) → r ≡ plantFault n xs ys zs → r .number ≡ 0 → Accepted n xs ys zs
-plant-accepted n xs ys zs r e z = done-accepted n xs ys zs (plant-clean n xs ys zs .whole (sym (ap (λ (t : Refusal). t .number) e) ∙ z))
 
 -- the community call's first fault
 module _ (n : ℕ) (xs ys zs : List ℕ) (p q d room : ℕ) where

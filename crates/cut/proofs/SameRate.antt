@@ -21,7 +21,8 @@ use Rattle.cut.specs.declared.community.Answer.{Answer}
 use Rattle.cut.specs.Calls.{marksOf, communityFault, communityAnswer, communityMarks}
 use Rattle.rules.proofs.RangeLaws.{range-in}
 use Rattle.rules.proofs.FillLaws.{over-agree}
-use Rattle.cut.proofs.CallLaws.{plant-accepted, community-plant, community-10}
+use Rattle.rules.proofs.RefusalLaws.{plant-accepted}
+use Rattle.cut.proofs.CallLaws.{community-plant, community-10}
 
 -- what is said where the number is 0, and something else where it is not
 by-number : {A : Type 0} (r : Refusal) (x x′ y : A) → (r .number ≡ 0 → x ≡ x′) → cond (eqb (r .number) 0) x y ≡ cond (eqb (r .number) 0) x′ y

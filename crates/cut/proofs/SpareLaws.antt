@@ -43,7 +43,7 @@ out-sum (a ∷ xs) (b ∷ ys) [] S e e′ = absurd (omega arith)
 out-sum (a ∷ xs) (b ∷ ys) (c ∷ zs) S e e′ =
     rw (out-sum xs ys zs S (suc-inj e) (suc-inj e′)) (sym (sum-front (length xs) (λ l. crossing (getD (c ∷ zs) l 0) (S (getD (a ∷ xs) l 0)) (S (getD (b ∷ ys) l 0)))))
 
-below-sum : (g : Plant) (k : ℕ) (S : Devices) → sizeBelow g k S ≡ sum k (λ v. cond (S v) (sizeAt g v) 0)
+pub below-sum : (g : Plant) (k : ℕ) (S : Devices) → sizeBelow g k S ≡ sum k (λ v. cond (S v) (sizeAt g v) 0)
 unfolding sizeBelow sum
 below-sum g zero S = refl
 below-sum g (suc k) S = rw (below-sum g k S)

@@ -17,9 +17,9 @@ use Rattle.cut.specs.Calls.{wantedIn, ownersFault, ownersOf, ownersAfter}
 use Rattle.rules.proofs.RangeLaws.{InRange, range-in}
 use Rattle.grouping.specs.declared.level.Level.{Level}
 use Rattle.grouping.specs.Calls.{groupingFault, groupingAnswer, labelsAfter}
-use Rattle.grouping.specs.Level.{firstWith, LevelAt, Enough, everybody, heads, Between}
+use Rattle.grouping.specs.Level.{firstWith, IsLevel, Enough, ownsItself, Between}
 use Rattle.grouping.proofs.FaultLaws.{Clear, owners-done, owners-cases, grouping-short, grouping-done}
-use Rattle.grouping.proofs.LevelLaws.{enough-devices, enough-groups, enough-level, enough-all, enough-between, level-at-same, all-wanted}
+use Rattle.grouping.proofs.LevelLaws.{enough-devices, enough-groups, enough-level, enough-all, enough-between}
 
 module _ (n : ℕ) (xs ys zs : List ℕ) (p q : ℕ) where
   abbrev g : Plant
@@ -44,19 +44,10 @@ module _ (n : ℕ) (xs ys zs : List ℕ) (p q : ℕ) where
     unfolding plantOf
     all-enough = enough-all g p q sound (range .p-least) (clear .accepted .most-devices)
 
-    pub all-level : {level : Level} → LevelAt g p q (wantedIn (replicate 128 1)) level → LevelAt g p q everybody level
-    unfolding plantOf
-    all-level = level-at-same g p q (wantedIn (replicate 128 1)) everybody (λ v h. all-wanted v (omega (arith, clear .accepted .most-devices)))
-
     -- between two known levels
-    module _ (finer coarser : Level) (between : Between g p q finer coarser) (wanted : List ℕ) (marked : (v : ℕ) → v < n → wantedIn wanted v ≡ heads (finer .owner) v) where
-      pub between-enough : Enough g p q (coarser .labels) wanted
-      unfolding plantOf
-      between-enough = enough-between g p q sound (range .q-least) finer coarser between wanted marked
-
-      pub between-level : {level : Level} → LevelAt g p q (wantedIn wanted) level → LevelAt g p q (heads (finer .owner)) level
-      unfolding plantOf
-      between-level = level-at-same g p q (wantedIn wanted) (heads (finer .owner)) marked
+    pub between-enough : (owner fence : List ℕ) → Between g p q owner fence → (wanted : List ℕ) → ((v : ℕ) → v < n → wantedIn wanted v ≡ ownsItself owner v) → Enough g p q fence wanted
+    unfolding plantOf
+    between-enough owner fence between wanted marked = enough-between g p q sound (range .q-least) owner fence between wanted marked
 
     module _ (fence wanted : List ℕ) (wide : length fence ≡ 128) (wide′ : length wanted ≡ 128) (enough : Enough g p q fence wanted) (owner : List ℕ)
         (found : owner ≡ ownersAfter n xs ys zs p q fence wanted (replicate 128 0)) where
@@ -73,9 +64,9 @@ module _ (n : ℕ) (xs ys zs : List ℕ) (p q : ℕ) where
       found-groups = rw filled (enough-groups g p q sound (range .p-least) fence wanted enough (replicate 128 0))
 
       pub found-level : {labels : List ℕ} {count : ℕ} → labels ≡ over (table n (firstWith n owner)) (replicate 128 0) → count ≡ distinct (table n (firstWith n owner))
-          → LevelAt g p q (wantedIn wanted) (record { labels = labels; owner = owner; groups = count })
+          → IsLevel g p q (record { labels = labels; owner = owner; groups = count })
       unfolding plantOf
-      found-level a b = enough-level g p q sound (range .p-least) fence wanted enough filled a b
+      found-level a b = enough-level g p q sound (range .p-least) fence wanted enough (clear .accepted .most-devices) filled a b
 
   -- the answer and the labels of a refused call
   kept : (r : Refusal) (labels : List ℕ) → groupingFault n xs ys zs p q (length labels) ≡ r → (r .number ≡ 0 → ⊥)

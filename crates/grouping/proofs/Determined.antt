@@ -1,14 +1,10 @@
 -- Two results that a contract of this crate allows are equal: document 01, "What the contracts have to determine". Assumes nothing.
 use mathlib.Core.Path.{_≡_, sym, _∙_}
-use mathlib.Core.Bool.{Bool}
 use mathlib.Core.List.{List}
-use Prim.Native.Nat.{ℕ, _<_}
-use lib.ListN.{getD}
-use Rattle.rules.specs.Plant.{Plant}
+use Prim.Native.Nat.{ℕ}
+use Rattle.rules.specs.declared.Refusal.{Refusal}
 use Rattle.grouping.specs.declared.grouping.Grouping.{Grouping}
-use Rattle.grouping.specs.declared.level.Level.{Level}
-use Rattle.grouping.specs.Calls.{groupingAnswer, labelsAfter}
-use Rattle.grouping.specs.Level.{IsLevel, LevelAt}
+use Rattle.grouping.specs.Calls.{groupingAnswer, labelsAfter, rowFault, rowShown}
 
 -- the grouping call: the answer r, and the lent labels afterwards, new
 pub groups-determined : (n : ℕ) (xs ys zs : List ℕ) (p q : ℕ) (labels : List ℕ) {r r′ : Grouping} {new new′ : List ℕ}
@@ -17,11 +13,9 @@ pub groups-determined : (n : ℕ) (xs ys zs : List ℕ) (p q : ℕ) (labels : Li
     → (r ≡ r′) × (new ≡ new′)
 groups-determined n xs ys zs p q labels a b = (a .0 ∙ sym (b .0), a .1 ∙ sym (b .1))
 
--- the calls that answer a level
-pub level-determined : {g : Plant} {p q : ℕ} {wanted : ℕ → Bool} {l l′ : Level} → LevelAt g p q wanted l → LevelAt g p q wanted l′ → l ≡ l′
-level-determined a b = a .whole ∙ sym (b .whole)
+-- the check of a row's inputs, and the row
+pub check-row-determined : (labels : List ℕ) (n levels k : ℕ) {r r′ : Refusal} → r ≡ rowFault labels n levels k → r′ ≡ rowFault labels n levels k → r ≡ r′
+check-row-determined labels n levels k a b = a ∙ sym b
 
--- and the grouping that a level states, however it was searched
-pub level-labels : {g : Plant} {p q : ℕ} {l l′ : Level} → IsLevel g p q l → IsLevel g p q l′
-    → ((v : ℕ) → v < g .devices → getD (l .labels) v 0 ≡ getD (l′ .labels) v 0) × (l .groups ≡ l′ .groups)
-level-labels a b = (λ v h. a .labelled v h ∙ sym (b .labelled v h), a .counted ∙ sym (b .counted))
+pub row-determined : (labels : List ℕ) (n levels k : ℕ) {row row′ : List ℕ} → row ≡ rowShown labels n levels k → row′ ≡ rowShown labels n levels k → row ≡ row′
+row-determined labels n levels k a b = a ∙ sym b

@@ -7,7 +7,7 @@ use mathlib.Core.List.{List}
 use Prim.Native.Nat.{ℕ, _≤_, _<_}
 use native.Mathlib.Nat.{le-refl}
 use native.Mathlib.Omega.{arith}
-use lib.ListN.{getD, replicate, getD-replicate}
+use lib.ListN.{length, getD, replicate, getD-replicate, length-replicate}
 use borrow.Author.Tests.{eqb-true, eq-eqb}
 use Rattle.rules.specs.Plant.{Plant, Sound}
 use Rattle.rules.specs.Cut.{Inside, size}
@@ -23,9 +23,9 @@ use Rattle.rules.proofs.Sweep.{sweep-owner, sweep-self, sweep-group, sweep-same
 use Rattle.rules.proofs.Instance.{family, sweep-agree}
 use Rattle.rules.specs.Lists.{over}
 use Rattle.cut.specs.Calls.{fenceOf, wantedIn, ownersOf}
-use Rattle.rules.proofs.FillLaws.{over-front}
+use Rattle.rules.proofs.FillLaws.{over-front, over-size}
 use Rattle.grouping.specs.declared.level.Level.{Level}
-use Rattle.grouping.specs.Level.{firstWith, IsLevel, padded, levelOf, LevelAt, Enough, heads, Between}
+use Rattle.grouping.specs.Level.{firstWith, Labelled, Owned, IsLevel, Enough, ownsItself, Between}
 
 module _ (g : Plant) (p q : ℕ) where
   abbrev n : ℕ
@@ -33,14 +33,6 @@ module _ (g : Plant) (p q : ℕ) where
 
   abbrev owned : (ℕ → Bool) → ℕ → ℕ
   owned wanted = sweep (community g p q) wanted (g .devices) (g .devices)
-
-  -- wanted devices that are the same below n give one level
-  level-same : (wanted wanted′ : ℕ → Bool) → ((v : ℕ) → v < g .devices → wanted v ≡ wanted′ v) → levelOf g p q wanted ≡ levelOf g p q wanted′
-  unfolding levelOf
-  level-same wanted wanted′ a = rw (table-agree n (owned wanted) (owned wanted′) (λ v h. sweep-agree n (community g p q) (community g p q) wanted wanted′ n (λ k v hk hv. refl) a n v (le-refl n) h))
-
-  pub level-at-same : {level : Level} (wanted wanted′ : ℕ → Bool) → ((v : ℕ) → v < g .devices → wanted v ≡ wanted′ v) → LevelAt g p q wanted level → LevelAt g p q wanted′ level
-  level-at-same wanted wanted′ a l = record { whole = l .whole ∙ level-same wanted wanted′ a; grouping = l .grouping }
 
   -- inside fences that hold the communities the owners are the same
   pub owners-enough : (fence wanted : List ℕ) → Sound g → Enough g p q fence wanted
@@ -72,19 +64,12 @@ module _ (g : Plant) (p q : ℕ) where
       unfolding groups firstWith
       owners-groups = table-agree n (firstWith n owner) (label g p q) (λ v h. lowest-agree n _ _ (λ u hu. rw (at u hu, at v h)) ∙ sym (sweep-label g p q fam wanted cover v h))
 
-    pub level-is : IsLevel g p q (levelOf g p q wanted)
-    unfolding levelOf padded groups
-    level-is = record {
-      labelled = λ v h. over-front n (label g p q) (replicate 128 0) v h;
-      counted = refl;
-      device = owners-devices (replicate 128 0);
-      group = λ v h. rw (own v h) (sweep-group g p q fam wanted cover v h);
-      self = λ v h. rw (own v h, own (s v) (rw (own v h) at (owners-devices (replicate 128 0) v h))) (sweep-self n (size g) (community g p q) fam wanted cover v h);
-      once = λ u v hu hv e. rw (own u hu, own v hv) (eqb-true (s u) (s v) (sweep-same g p q fam wanted cover u v hu hv ∙ label-same g p q fam v u hv hu .0 (sym e)));
-    }
-      where
-        own : (v : ℕ) → v < n → getD (owner (replicate 128 0)) v 0 ≡ s v
-        own = at (replicate 128 0)
+      pub owners-owned : Owned g p q owner
+      owners-owned = record {
+        device = owners-devices;
+        group = λ v h. rw (at v h) (sweep-group g p q fam wanted cover v h);
+        self = λ v h. rw (at v h, at (s v) (rw (at v h) at (owners-devices v h))) (sweep-self n (size g) (community g p q) fam wanted cover v h);
+      }
 
   -- what a search of enough devices and the labels from its owners make is the level
   module _ (s : Sound g) (o : 1 ≤ p) (fence wanted : List ℕ) (enough : Enough g p q fence wanted) where
@@ -94,11 +79,15 @@ module _ (g : Plant) (p q : ℕ) where
     pub enough-groups : (old : List ℕ) → table (g .devices) (firstWith (g .devices) (over (ownersOf g p q fence wanted) old)) ≡ groups g p q
     enough-groups old = rw (owners-enough fence wanted s enough) (owners-groups (family g p q s o) (wantedIn wanted) (enough .covers) old)
 
-    pub enough-level : {labels owner : List ℕ} {count : ℕ} → owner ≡ over (ownersOf g p q fence wanted) (replicate 128 0)
+    pub enough-level : {labels owner : List ℕ} {count : ℕ} → g .devices ≤ 128 → owner ≡ over (ownersOf g p q fence wanted) (replicate 128 0)
         → labels ≡ over (table (g .devices) (firstWith (g .devices) owner)) (replicate 128 0) → count ≡ distinct (table (g .devices) (firstWith (g .devices) owner))
-        → LevelAt g p q (wantedIn wanted) (record { labels = labels; owner = owner; groups = count })
-    unfolding levelOf padded
-    enough-level {labels} {owner} {count} a b d = record { whole = whole; grouping = rw whole (level-is (family g p q s o) (wantedIn wanted) (enough .covers)) }
+        → IsLevel g p q (record { labels = labels; owner = owner; groups = count })
+    enough-level {labels} {owner} {count} few a b d = record {
+      labelled = λ v h. ap (λ (l : List ℕ). getD l v 0) labels-are ∙ (unfold groups in over-front n (label g p q) (replicate 128 0) v h);
+      counted = d ∙ ap distinct all;
+      owned = rw own (owners-owned (family g p q s o) (wantedIn wanted) (enough .covers) (replicate 128 0));
+      wide = ap length b ∙ over-size n (firstWith n owner) (replicate 128 0) (rw (length-replicate {A = ℕ} 128 0) few) ∙ length-replicate {A = ℕ} 128 0;
+    }
       where
         own : owner ≡ over (table n (owned (wantedIn wanted))) (replicate 128 0)
         own = a ∙ ap (λ (l : List ℕ). over l (replicate 128 0)) (owners-enough fence wanted s enough)
@@ -106,8 +95,8 @@ module _ (g : Plant) (p q : ℕ) where
         all : table n (firstWith n owner) ≡ groups g p q
         all = ap (λ (l : List ℕ). table n (firstWith n l)) a ∙ enough-groups (replicate 128 0)
 
-        whole : record { labels = labels; owner = owner; groups = count } ≡ levelOf g p q (wantedIn wanted)
-        whole = rw (b, d, all, own)
+        labels-are : labels ≡ over (groups g p q) (replicate 128 0)
+        labels-are = b ∙ ap (λ (l : List ℕ). over l (replicate 128 0)) all
 
 pub all-wanted : (v : ℕ) → v < 128 → wantedIn (replicate 128 1) v ≡ true
 unfolding wantedIn
@@ -122,16 +111,16 @@ enough-all g p q s o h = record {
 }
 
 -- one device for each group of the finer level, inside its group in the coarser, is enough
-pub enough-between : (g : Plant) (p q : ℕ) → Sound g → 1 ≤ q → (finer coarser : Level) → Between g p q finer coarser
-    → (wanted : List ℕ) → ((v : ℕ) → v < g .devices → wantedIn wanted v ≡ heads (finer .owner) v) → Enough g p q (coarser .labels) wanted
-unfolding fenceOf heads
-enough-between g p q s u finer coarse b wanted w = record { fenced = fenced; covers = λ d hd. (head d, b .finer-is .device d hd, chosen d hd, covered d hd) }
+pub enough-between : (g : Plant) (p q : ℕ) → Sound g → 1 ≤ q → (owner fence : List ℕ) → Between g p q owner fence
+    → (wanted : List ℕ) → ((v : ℕ) → v < g .devices → wantedIn wanted v ≡ ownsItself owner v) → Enough g p q fence wanted
+unfolding fenceOf ownsItself
+enough-between g p q s u owner fence b wanted w = record { fenced = fenced; covers = λ d hd. (owns d, b .finer-is .device d hd, chosen d hd, covered d hd) }
   where
     n : ℕ
     n = g .devices
 
-    head : ℕ → ℕ
-    head d = getD (finer .owner) d 0
+    owns : ℕ → ℕ
+    owns d = getD owner d 0
 
     low : Family n (size g) (community g (b .low-p) (b .low-q))
     low = family g (b .low-p) (b .low-q) s (b .some-low-p)
@@ -140,22 +129,11 @@ enough-between g p q s u finer coarse b wanted w = record { fenced = fenced; cov
     together d i hd hi m = label-same g (b .low-p) (b .low-q) low d i hd hi .1
         (group-largest g (b .low-p) (b .low-q) low d d hd hd (low .own d hd) i hi (coarser g p q (b .low-p) (b .low-q) d s hd (b .some-low-q) (b .not-below) i hi m))
 
-    fenced : (d : ℕ) → d < n → Inside n (community g p q d) (fenceOf (coarse .labels) d)
-    fenced d hd i hi m = eq-eqb _ _ (b .coarser-is .labelled i hi ∙ sym (together d i hd hi m) ∙ sym (b .coarser-is .labelled d hd))
+    fenced : (d : ℕ) → d < n → Inside n (community g p q d) (fenceOf fence d)
+    fenced d hd i hi m = eq-eqb _ _ (b .coarser-is i hi ∙ sym (together d i hd hi m) ∙ sym (b .coarser-is d hd))
 
-    chosen : (d : ℕ) → d < n → wantedIn wanted (head d) ≡ true
-    chosen d hd = w (head d) (b .finer-is .device d hd) ∙ eq-eqb _ _ (b .finer-is .self d hd)
+    chosen : (d : ℕ) → d < n → wantedIn wanted (owns d) ≡ true
+    chosen d hd = w (owns d) (b .finer-is .device d hd) ∙ eq-eqb _ _ (b .finer-is .self d hd)
 
-    covered : (d : ℕ) → d < n → community g p q (head d) d ≡ true
-    covered d hd = coarser g (b .high-p) (b .high-q) p q (head d) s (b .finer-is .device d hd) u (b .not-above) d hd (b .finer-is .group d hd d hd ∙ group-holds g (b .high-p) (b .high-q) (family g (b .high-p) (b .high-q) s (b .some-high-p)) d hd)
-
--- of each group of a level one device is a head, and no other of the group
-module _ (g : Plant) (p q : ℕ) (level : Level) (is : IsLevel g p q level) where
-  pub some-head : (v : ℕ) → v < g .devices → heads (level .owner) (getD (level .owner) v 0) ≡ true
-  unfolding heads
-  some-head v h = eq-eqb _ _ (is .self v h)
-
-  pub one-head : (u v : ℕ) → u < g .devices → v < g .devices → label g p q u ≡ label g p q v
-      → heads (level .owner) u ≡ true → heads (level .owner) v ≡ true → u ≡ v
-  unfolding heads
-  one-head u v hu hv e a b = sym (eqb-true _ _ a) ∙ is .once u v hu hv e ∙ eqb-true _ _ b
+    covered : (d : ℕ) → d < n → community g p q (owns d) d ≡ true
+    covered d hd = coarser g (b .high-p) (b .high-q) p q (owns d) s (b .finer-is .device d hd) u (b .not-above) d hd (b .finer-is .group d hd d hd ∙ group-holds g (b .high-p) (b .high-q) (family g (b .high-p) (b .high-q) s (b .some-high-p)) d hd)

@@ -1,5 +1,7 @@
 -- Definitions that the contracts of this crate cite.
---     Calls   what the grouping call answers and what it leaves in the lent list
---     Level   a level of the hierarchy as a value, and what makes it one
+--     Calls    what the public calls answer and what they leave in the lent lists
+--     Level    a level of the hierarchy as a value, and what makes it one; no public contract cites it
+--     Stretch  what the functions of the search between two levels say to each other; no public contract cites it
 pub mod Calls
 pub mod Level
+pub mod Stretch

@@ -51,7 +51,7 @@ pub fn groups_at(
             groups: 0,
         };
     }
-    let groups = fill(n, owner, labels);
+    let groups = fill(n, &owner, labels);
     Grouping {
         number: 0,
         place: 0,

@@ -7,10 +7,10 @@ ghost use Rattle.rules.specs.Lists.{over};
 ghost use Rattle.grouping.specs.Level.{firstWith};
 
 // Fills for each device the lowest one with its owner, and counts these.
-pub fn fill(n: usize, owner: [usize; 128], labels: &mut [usize]) -> usize
-    requires { ⌜ (n ≤ 128) × (n ≤ length (now labels)) × ((v : ℕ) → v < n → getD owner v 0 < n) ⌝ }
-    ensures { λ r. ⌜ r ≡ distinct (table n (firstWith n owner)) ⌝ }
-    ensures { λ _. ⌜ now (labels .exit) ≡ over (table n (firstWith n owner)) (now (labels .entry)) ⌝ }
+pub fn fill(n: usize, owner: &[usize; 128], labels: &mut [usize]) -> usize
+    requires { ⌜ (n ≤ 128) × (n ≤ length (now labels)) × ((v : ℕ) → v < n → getD (now owner) v 0 < n) ⌝ }
+    ensures { λ r. ⌜ r ≡ distinct (table n (firstWith n (now (owner .entry)))) ⌝ }
+    ensures { λ _. ⌜ now (labels .exit) ≡ over (table n (firstWith n (now (owner .entry)))) (now (labels .entry)) ⌝ }
 {
     let mut first = [n; 128];
     let mut groups = 0;

@@ -5,11 +5,12 @@ use cut::rate::Rate;
 ghost use mathlib.Core.Path.{_≡_};
 ghost use Prim.Native.Nat.{ℕ, _≤_, _<_};
 ghost use mathlib.Core.Bool.{true};
+ghost use lib.ListN.{length};
 ghost use Rattle.rules.specs.Plant.{plantOf};
 ghost use Rattle.rules.specs.Rates.{rateOk};
 ghost use Rattle.rules.specs.Refusals.{Accepted};
 ghost use Rattle.cut.specs.Calls.{wantedIn};
-ghost use Rattle.grouping.specs.Level.{LevelAt, Enough, everybody, heads, Between};
+ghost use Rattle.grouping.specs.Level.{IsLevel, Enough, ownsItself, Between};
 
 // A level: for each device the lowest device of its group and one whose community the group is, and the number of groups.
 pub struct Level {
@@ -19,9 +20,9 @@ pub struct Level {
 }
 
 // Marks the devices that own themselves.
-fn marked(n: usize, owner: [usize; 128]) -> [u8; 128]
+fn marked(n: usize, owner: &[usize; 128]) -> [u8; 128]
     requires { ⌜ n ≤ 128 ⌝ }
-    ensures { λ r. ⌜ ((v : ℕ) → v < n → wantedIn r v ≡ heads owner v) ⌝ }
+    ensures { λ r. ⌜ ((v : ℕ) → v < n → wantedIn r v ≡ ownsItself (now (owner .entry)) v) ⌝ }
 {
     let mut wanted = [0u8; 128];
     let mut v = 0;
@@ -41,25 +42,18 @@ fn level_inside(
     seconds: &[usize],
     signals: &[usize],
     rate: Rate,
-    fence: [usize; 128],
-    wanted: [u8; 128],
+    fence: &[usize; 128],
+    wanted: &[u8; 128],
 ) -> Level
-    requires { ⌜ (rateOk (rate .p) (rate .q) ≡ true) × Accepted n (now firsts) (now seconds) (now signals) × Enough (plantOf n (now firsts) (now seconds) (now signals)) (rate .p) (rate .q) fence wanted ⌝ }
-    ensures { λ r. ⌜ LevelAt (plantOf n (now (firsts .entry)) (now (seconds .entry)) (now (signals .entry))) (rate .p) (rate .q) (wantedIn wanted) r ⌝ }
+    requires { ⌜ (rateOk (rate .p) (rate .q) ≡ true) × Accepted n (now firsts) (now seconds) (now signals) ⌝ }
+    requires { ⌜ (length (now fence) ≡ 128) × (length (now wanted) ≡ 128) ⌝ }
+    requires { ⌜ Enough (plantOf n (now firsts) (now seconds) (now signals)) (rate .p) (rate .q) (now fence) (now wanted) ⌝ }
+    ensures { λ r. ⌜ IsLevel (plantOf n (now (firsts .entry)) (now (seconds .entry)) (now (signals .entry))) (rate .p) (rate .q) r ⌝ }
 {
     let mut owner = [0usize; 128];
-    owners(
-        n,
-        firsts,
-        seconds,
-        signals,
-        rate,
-        &fence,
-        &wanted,
-        &mut owner,
-    );
+    owners(n, firsts, seconds, signals, rate, fence, wanted, &mut owner);
     let mut labels = [0usize; 128];
-    let groups = fill(n, owner, &mut labels);
+    let groups = fill(n, &owner, &mut labels);
     Level {
         labels,
         owner,
@@ -76,26 +70,29 @@ pub fn level_at(
     rate: Rate,
 ) -> Level
     requires { ⌜ (rateOk (rate .p) (rate .q) ≡ true) × Accepted n (now firsts) (now seconds) (now signals) ⌝ }
-    ensures { λ r. ⌜ LevelAt (plantOf n (now (firsts .entry)) (now (seconds .entry)) (now (signals .entry))) (rate .p) (rate .q) everybody r ⌝ }
+    ensures { λ r. ⌜ IsLevel (plantOf n (now (firsts .entry)) (now (seconds .entry)) (now (signals .entry))) (rate .p) (rate .q) r ⌝ }
 {
-    level_inside(n, firsts, seconds, signals, rate, [0usize; 128], [1u8; 128])
+    let fence = [0usize; 128];
+    let wanted = [1u8; 128];
+    level_inside(n, firsts, seconds, signals, rate, &fence, &wanted)
 }
 
-// The level at a rate between those of two known levels: one search for each group of the finer, inside the coarser's group.
+// The level at a rate between those of two known levels: one search for each group of the finer, whose owners these are, inside the
+// coarser's group, whose labels are the fence.
 pub fn level_between(
     n: usize,
     firsts: &[usize],
     seconds: &[usize],
     signals: &[usize],
     rate: Rate,
-    finer: Level,
-    coarser: Level,
+    owner: &[usize; 128],
+    fence: &[usize; 128],
 ) -> Level
-    requires { ⌜ (rateOk (rate .p) (rate .q) ≡ true) × Accepted n (now firsts) (now seconds) (now signals) × Between (plantOf n (now firsts) (now seconds) (now signals)) (rate .p) (rate .q) finer coarser ⌝ }
-    ensures { λ r. ⌜ LevelAt (plantOf n (now (firsts .entry)) (now (seconds .entry)) (now (signals .entry))) (rate .p) (rate .q) (heads (finer .owner)) r ⌝ }
+    requires { ⌜ (rateOk (rate .p) (rate .q) ≡ true) × Accepted n (now firsts) (now seconds) (now signals) ⌝ }
+    requires { ⌜ length (now fence) ≡ 128 ⌝ }
+    requires { ⌜ Between (plantOf n (now firsts) (now seconds) (now signals)) (rate .p) (rate .q) (now owner) (now fence) ⌝ }
+    ensures { λ r. ⌜ IsLevel (plantOf n (now (firsts .entry)) (now (seconds .entry)) (now (signals .entry))) (rate .p) (rate .q) r ⌝ }
 {
-    let owner = finer.owner;
-    let fence = coarser.labels;
     let wanted = marked(n, owner);
-    level_inside(n, firsts, seconds, signals, rate, fence, wanted)
+    level_inside(n, firsts, seconds, signals, rate, fence, &wanted)
 }

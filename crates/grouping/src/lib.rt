@@ -1,4 +1,9 @@
-// The grouping part: the groups at a rate, and the levels that the hierarchy is made of. It stands on what the cut part promises.
+// The grouping part: the groups at a rate, the whole hierarchy, one level's row, and the joining rate of two devices. It stands on what
+// the cut part promises.
+mod crossing;
 pub mod grouping;
+pub mod hierarchy;
+pub mod joining;
 mod labels;
 mod level;
+pub mod row;

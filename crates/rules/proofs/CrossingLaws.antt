@@ -116,7 +116,7 @@ crossed g p q p′ q′ S T l h k =
     (omega (arith, weighed g p q p′ q′ 0 S T (omega arith) (omega arith) k))
     (omega arith)
 
-not-below : {m n : ℕ} → (m < n → ⊥) → n ≤ m
+pub not-below : {m n : ℕ} → (m < n → ⊥) → n ≤ m
 not-below f = le-of-suc-le-suc (lt-of-not-le f)
 
 -- a smaller set that holds the device costs more than the community

@@ -215,6 +215,10 @@ module _ (n : ℕ) (xs ys zs : List ℕ) where
         most-signals = a .most-signals k l;
       }
 
+-- a plant with number 0 is accepted
+pub plant-accepted : (n : ℕ) (xs ys zs : List ℕ) (r : Refusal) → r ≡ plantFault n xs ys zs → r .number ≡ 0 → Accepted n xs ys zs
+plant-accepted n xs ys zs r e z = done-accepted n xs ys zs (plant-clean n xs ys zs .whole (sym (ap (λ (t : Refusal). t .number) e) ∙ z))
+
 -- an accepted plant's lines join its devices
 ends-below : (n : ℕ) (xs ys zs : List ℕ) → ((k : ℕ) → k < length xs → getD xs k 0 < n) → ((k : ℕ) → k < length xs → getD ys k 0 < n) → EndsBelow n (linesOf xs ys zs)
 unfolding linesOf EndsBelow

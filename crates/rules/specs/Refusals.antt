@@ -66,6 +66,14 @@ rateFault p q = cause (not (rateOk p q)) 9 0
 unfoldable pub deviceFault : ℕ → ℕ → Refusal
 deviceFault n d = cause (leb n d) 10 0
 
+-- "11: joining rate of a device with itself"
+unfoldable pub selfFault : ℕ → ℕ → Refusal
+selfFault i j = cause (eqb i j) 11 0
+
+-- "16: level number not below the level count, or the count over n"
+unfoldable pub levelFault : ℕ → ℕ → ℕ → Refusal
+levelFault n levels k = cause (leb levels k || ltb n levels) 16 0
+
 -- "12: a list to be filled or shown is too short"
 unfoldable pub roomFault : ℕ → ℕ → Refusal
 roomFault needed room = cause (ltb room needed) 12 0

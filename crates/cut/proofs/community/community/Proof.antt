@@ -5,7 +5,8 @@ use native.Mathlib.Nat.{suc-ne-zero}
 use borrow.Author.Needs.{needs}
 use borrow.Author.Tests.{not-true, not-false}
 use Rattle.cut.proofs.CheckLaws.{at}
-use Rattle.cut.proofs.CallLaws.{plant-accepted, same-zero, same-some, community-plant, community-9, community-10, community-12, community-0, community-refused, community-kept, community-answered, community-filled}
+use Rattle.rules.proofs.RefusalLaws.{plant-accepted}
+use Rattle.cut.proofs.CallLaws.{same-zero, same-some, community-plant, community-9, community-10, community-12, community-0, community-refused, community-kept, community-answered, community-filled}
 use Rattle.cut.proofs.community.community.Statement.{statement}
 use Rattle.cut.proofs.community.community.Tie as tie
 

@@ -5,7 +5,8 @@ use native.Mathlib.Nat.{suc-ne-zero}
 use borrow.Author.Needs.{needs}
 use borrow.Author.Tests.{not-true, not-false}
 use Rattle.cut.proofs.CheckLaws.{at}
-use Rattle.cut.proofs.CallLaws.{plant-accepted, same-zero, same-some, owners-plant, owners-9, owners-fence, owners-wanted, owners-room, owners-0, owners-kept, owners-filled}
+use Rattle.rules.proofs.RefusalLaws.{plant-accepted}
+use Rattle.cut.proofs.CallLaws.{same-zero, same-some, owners-plant, owners-9, owners-fence, owners-wanted, owners-room, owners-0, owners-kept, owners-filled}
 use Rattle.cut.proofs.owners.owners.Statement.{statement}
 use Rattle.cut.proofs.owners.owners.Tie as tie
 

@@ -33,10 +33,10 @@ returns-2 c = too-short _ _ _ _ _ _ (clear (c .before)) _ (c .if2 .taken)
 
 fill-requires : tie.Need-fill-requires
 fill-requires c κs =
-    let ok = clear (c .before .before) in (
+    let ok = clear (c .before .before .before) in (
       ok .accepted .most-devices,
-      c .before .if2 .left,
-      found-devices _ _ _ _ _ _ ok (replicate 128 0) (replicate 128 1) refl refl (all-enough _ _ _ _ _ _ ok) _ (c .before .before .before .before .before .owners .ensures .1),
+      c .before .before .if2 .left,
+      found-devices _ _ _ _ _ _ ok (replicate 128 0) (replicate 128 1) refl refl (all-enough _ _ _ _ _ _ ok) _ (c .before .before .before .before .before .before .owners .ensures .1),
     )
 
 same-length : tie.Need-same-length
@@ -44,9 +44,9 @@ same-length c = search needs
 
 returns-3 : tie.Need-returns-3
 returns-3 c =
-    let ok = clear (c .before .before .before .before .before) in
-    answered _ _ _ _ _ _ ok _ (c .before .before .before .before .if2 .left)
-    (found-groups _ _ _ _ _ _ ok (replicate 128 0) (replicate 128 1) refl refl (all-enough _ _ _ _ _ _ ok) _ (c .before .before .before .before .before .before .before .before .owners .ensures .1)) (c .before .before .fill .ensures .0) (c .before .before .fill .ensures .1)
+    let ok = clear (c .before .before .before .before .before .before) in
+    answered _ _ _ _ _ _ ok _ (c .before .before .before .before .before .if2 .left)
+    (found-groups _ _ _ _ _ _ ok (replicate 128 0) (replicate 128 1) refl refl (all-enough _ _ _ _ _ _ ok) _ (c .before .before .before .before .before .before .before .before .before .owners .ensures .1)) (c .before .before .fill .ensures .0) (c .before .before .fill .ensures .1)
 
 pub groups-at-spec : {M : Type 1} → statement M
 groups-at-spec =

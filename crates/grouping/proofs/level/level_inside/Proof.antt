@@ -1,5 +1,4 @@
 -- `grouping::level::level_inside` meets its contract, by the laws of a search of enough devices. Assumes nothing.
-use mathlib.Core.Path.{sym}
 use borrow.Author.Needs.{needs}
 use Rattle.grouping.proofs.FaultLaws.{cleared}
 use Rattle.grouping.proofs.CallLaws.{found-devices, found-level}
@@ -9,12 +8,6 @@ use Rattle.grouping.proofs.level.level_inside.Tie as tie
 slice-aggregate-owners : tie.Need-slice-aggregate-owners
 slice-aggregate-owners c = search needs
 
-slice-aggregate-owners-2 : tie.Need-slice-aggregate-owners-2
-slice-aggregate-owners-2 c = search needs
-
-slice-aggregate-owners-3 : tie.Need-slice-aggregate-owners-3
-slice-aggregate-owners-3 c = search needs
-
 owners-requires : tie.Need-owners-requires
 owners-requires c κs = search needs
 
@@ -23,23 +16,23 @@ slice-aggregate-fill c = search needs
 
 fill-requires : tie.Need-fill-requires
 fill-requires c κs = (
-  start .pre .1 .most-devices,
-  start .pre .1 .most-devices,
-  found-devices _ _ _ _ _ _ (cleared _ _ _ _ _ _ (start .pre .1) (start .pre .0)) _ _ (sym (slice-aggregate-owners (c .before .before .before .before .before))) (sym (slice-aggregate-owners-2 (c .before .before .before .before))) (start .pre .2) _ (c .before .before .owners .ensures .1),
+  start .pre .0 .1 .most-devices,
+  start .pre .0 .1 .most-devices,
+  found-devices _ _ _ _ _ _ (cleared _ _ _ _ _ _ (start .pre .0 .1) (start .pre .0 .0)) _ _ (start .pre .1 .0 .0) (start .pre .1 .0 .1) (start .pre .1 .1) _ (c .before .before .before .owners .ensures .1),
 )
   where
     start : tie.Start
-    start = c .before .before .before .before .before .before .before .before .before
+    start = c .before .before .before .before .before .before .before .before .before .before
 
 returns : tie.Need-returns
 returns c =
-    found-level _ _ _ _ _ _ (cleared _ _ _ _ _ _ (start .pre .1) (start .pre .0)) _ _ (sym (slice-aggregate-owners (c .before .before .before .before .before .before .before))) (sym (slice-aggregate-owners-2 (c .before .before .before .before .before .before))) (start .pre .2) _ (c .before .before .before .before .owners .ensures .1)
+    found-level _ _ _ _ _ _ (cleared _ _ _ _ _ _ (start .pre .0 .1) (start .pre .0 .0)) _ _ (start .pre .1 .0 .0) (start .pre .1 .0 .1) (start .pre .1 .1) _ (c .before .before .before .before .before .owners .ensures .1)
     (c .before .fill .ensures .1) (c .before .fill .ensures .0)
   where
     start : tie.Start
-    start = c .before .before .before .before .before .before .before .before .before .before .before
+    start = c .before .before .before .before .before .before .before .before .before .before .before .before
 
 pub level-inside-spec : {M : Type 1} → statement M
 level-inside-spec =
     tie.close
-    (tie.spec slice-aggregate-owners slice-aggregate-owners-2 slice-aggregate-owners-3 owners-requires slice-aggregate-fill fill-requires returns)
+    (tie.spec slice-aggregate-owners owners-requires slice-aggregate-fill fill-requires returns)

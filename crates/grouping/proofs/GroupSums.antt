@@ -1,0 +1,171 @@
+-- Lists with a number for each label, added up item by item: the sizes of groups, device by device, and their outs, line by line.
+--     Tally      after k items each number is the sum of what they add to it
+--     sized-..   the sizes
+--     outed-..   the outs
+-- Assumes nothing.
+use Prim.Native.Nat.{ℕ, _+_, _*_, _≤_, _<_}
+use mathlib.Core.Path.{_≡_, refl, sym, ap, _∙_}
+use mathlib.Core.Bool.{Bool, true, false, cond}
+use mathlib.Core.List.{List}
+use native.Mathlib.Nat.{le-refl, le-trans, le-of-eq, add-zero}
+use native.Mathlib.Numerals.{add-one}
+use native.Mathlib.Decide.{ℕ-discrete}
+use native.Mathlib.Omega.{arith}
+use lib.Dec.{eqb}
+use lib.ListN.{length, getD, set, replicate, length-set, length-replicate, getD-replicate}
+use lib.Seq.{getD-set-same, getD-set-other}
+use borrow.Author.Tests.{eqb-true, eq-eqb, ne-eqb}
+use Rattle.rules.specs.Plant.{Plant, plantOf}
+use Rattle.rules.specs.Cut.{crossing, size, sizeAt}
+use Rattle.rules.specs.Refusals.{Accepted}
+use Rattle.rules.proofs.PlantLaws.{crossing-most}
+use Rattle.cut.specs.Search.{sum}
+use Rattle.cut.proofs.SumLaws.{sum-most}
+use Rattle.cut.proofs.SpareLaws.{out-sum, below-sum}
+use Rattle.grouping.specs.Stretch.{withLabel, LabelsBelow, SizesOf, OutsOf}
+
+-- x more at place i
+abbrev more : List ℕ → ℕ → ℕ → List ℕ
+more l i x = set l i (getD l i 0 + x)
+
+more-at : (l : List ℕ) (i x h : ℕ) → i < length l → getD (more l i x) h 0 ≡ getD l h 0 + cond (eqb i h) x 0
+more-at l i x h b = go (ℕ-discrete h i)
+  where
+    go : Dec (h ≡ i) → getD (more l i x) h 0 ≡ getD l h 0 + cond (eqb i h) x 0
+    go (yes e) = rw (e, getD-set-same l i (getD l i 0 + x) 0 b, eq-eqb i i refl)
+    go (no ne) = rw (getD-set-other l i h (getD l i 0 + x) 0 ne, ne-eqb i h (λ e. ne (sym e))) (sym (add-zero (getD l h 0)))
+
+-- after k items, f h j being what item j adds to the number of label h
+pub record Tally (n : ℕ) (f : ℕ → ℕ → ℕ) (list : List ℕ) (k : ℕ) : Type 0 where
+  pub wide : length list ≡ 128
+  pub so-far : (h : ℕ) → h < n → getD list h 0 ≡ sum k (f h)
+
+module _ (n : ℕ) (f : ℕ → ℕ → ℕ) where
+  pub tally-start : n ≤ 128 → Tally n f (replicate 128 0) 0
+  unfolding sum
+  tally-start small = record { wide = length-replicate {A = ℕ} 128 0; so-far = λ h l. getD-replicate {A = ℕ} 128 h 0 0 (omega arith) }
+
+  module _ {list : List ℕ} {k : ℕ} (t : Tally n f list k) where
+    tally-next : {list′ : List ℕ} → length list′ ≡ length list → ((h : ℕ) → h < n → getD list′ h 0 ≡ getD list h 0 + f h k) → Tally n f list′ (k + 1)
+    unfolding sum
+    tally-next w e = record { wide = w ∙ t .wide; so-far = λ h l. rw (add-one k) (e h l ∙ ap (λ (m : ℕ). m + f h k) (t .so-far h l)) }
+
+    pub tally-most : (b : ℕ) → ((h j : ℕ) → j < k → f h j ≤ b) → (h : ℕ) → h < n → getD list h 0 ≤ k * b
+    tally-most b most h l = le-trans (le-of-eq (t .so-far h l)) (sum-most k (f h) b (most h))
+
+-- what device v adds to the size of the group with label h
+abbrev pub sizeOf : List ℕ → ℕ → ℕ → ℕ
+sizeOf labels h v = cond (withLabel labels h v) 1 0
+
+one-most : (b : Bool) → cond b 1 0 ≤ 1
+one-most true = le-refl 1
+one-most false = omega arith
+
+module _ (n : ℕ) (labels : List ℕ) {sizes : List ℕ} {v : ℕ} (t : Tally n (sizeOf labels) sizes v) where
+  pub sized-most : (h : ℕ) → h < n → getD sizes h 0 ≤ v
+  sized-most h l = omega (arith, tally-most n (sizeOf labels) t 1 (λ h j b. one-most (withLabel labels h j)) h l)
+
+  pub sized-next : getD labels v 0 < 128 → Tally n (sizeOf labels) (set sizes (getD labels v 0) (getD sizes (getD labels v 0) 0 + 1)) (v + 1)
+  unfolding withLabel
+  sized-next l = tally-next n (sizeOf labels) t (simp length-set) (λ h b. more-at sizes (getD labels v 0) 1 h (omega (arith, t .wide)))
+
+  pub sized-done : n ≤ v → v ≤ n → (g : Plant) → g .devices ≡ n → SizesOf g labels sizes
+  unfolding size sizeAt
+  sized-done a b g e h l =
+      let same : v ≡ g .devices = omega arith in
+      t .so-far h (omega arith) ∙ ap (λ (m : ℕ). sum m (sizeOf labels h)) same ∙ sym (below-sum g (g .devices) (withLabel labels h))
+
+-- what line l adds to the out of the group with label h
+abbrev pub outOf : List ℕ → List ℕ → List ℕ → List ℕ → ℕ → ℕ → ℕ
+outOf xs ys zs labels h l = crossing (getD zs l 0) (withLabel labels h (getD xs l 0)) (withLabel labels h (getD ys l 0))
+
+crossing-none : (s : ℕ) (b : Bool) → crossing s b b ≡ 0
+unfolding crossing
+crossing-none s true = refl
+crossing-none s false = refl
+
+-- a line between two labels counts for both of them and for no other
+crossing-both : (s i j h : ℕ) → (i ≡ j → ⊥) → cond (eqb i h) s 0 + cond (eqb j h) s 0 ≡ crossing s (eqb i h) (eqb j h)
+unfolding crossing
+crossing-both s i j h ne = go (eqb i h) (eqb j h) refl refl
+  where
+    go : (a b : Bool) → eqb i h ≡ a → eqb j h ≡ b → cond a s 0 + cond b s 0 ≡ crossing s a b
+    go true true e f = absurd (ne (eqb-true i h e ∙ sym (eqb-true j h f)))
+    go true false e f = add-zero s
+    go false true e f = omega arith
+    go false false e f = refl
+
+-- line l: its ends and their labels are devices, its signals few, and there is room for them in the outs of the first l lines
+pub record LineFits (n : ℕ) (xs ys zs labels outs : List ℕ) (l : ℕ) : Type 0 where
+  pub first : getD xs l 0 < n
+  pub second : getD ys l 0 < n
+  pub first-label : getD labels (getD xs l 0) 0 < n
+  pub second-label : getD labels (getD ys l 0) 0 < n
+  pub few : getD zs l 0 ≤ 65535
+  pub first-out : getD outs (getD labels (getD xs l 0) 0) 0 ≤ l * 65535
+  pub second-out : getD outs (getD labels (getD ys l 0) 0) 0 ≤ l * 65535
+  pub in-seconds : l < length ys
+  pub in-signals : l < length zs
+  pub most-lines : l < 1024
+  pub most-devices : n ≤ 128
+
+module _ (n : ℕ) (xs ys zs labels : List ℕ) where
+  abbrev f : ℕ → ℕ → ℕ
+  f = outOf xs ys zs labels
+
+  module _ {outs : List ℕ} {l : ℕ} (t : Tally n (outOf xs ys zs labels) outs l) where
+    abbrev i : ℕ
+    i = getD labels (getD xs l 0) 0
+
+    abbrev j : ℕ
+    j = getD labels (getD ys l 0) 0
+
+    abbrev s : ℕ
+    s = getD zs l 0
+
+    outed-most : ((k : ℕ) → k < l → getD zs k 0 ≤ 65535) → (h : ℕ) → h < n → getD outs h 0 ≤ l * 65535
+    outed-most most =
+        tally-most n f t 65535
+        (λ h k b. le-trans (crossing-most (getD zs k 0) (withLabel labels h (getD xs k 0)) (withLabel labels h (getD ys k 0))) (most k b))
+
+    pub outed-fits : Accepted n xs ys zs → LabelsBelow n labels → l < length xs → LineFits n xs ys zs labels outs l
+    outed-fits a below b = record {
+      first = a .first-device l b;
+      second = a .second-device l b;
+      first-label = first-label;
+      second-label = second-label;
+      few = a .most-signals l b;
+      first-out = outed-most (λ k m. a .most-signals k (omega arith)) _ first-label;
+      second-out = outed-most (λ k m. a .most-signals k (omega arith)) _ second-label;
+      in-seconds = omega (arith, a .one-length);
+      in-signals = omega (arith, a .one-length, a .one-length′);
+      most-lines = omega (arith, a .most-lines);
+      most-devices = a .most-devices;
+    }
+      where
+        first-label : getD labels (getD xs l 0) 0 < n
+        first-label = below _ (a .first-device l b)
+
+        second-label : getD labels (getD ys l 0) 0 < n
+        second-label = below _ (a .second-device l b)
+
+    pub outed-other : i ≡ j → Tally n (outOf xs ys zs labels) outs (l + 1)
+    unfolding withLabel
+    outed-other e = tally-next n f t refl (λ h b. rw (e, crossing-none s (eqb j h)) (sym (add-zero (getD outs h 0))))
+
+    pub outed-both : (i ≡ j → ⊥) → i < 128 → j < 128
+        → Tally n (outOf xs ys zs labels) (set (set outs i (getD outs i 0 + s)) j (getD (set outs i (getD outs i 0 + s)) j 0 + s)) (l + 1)
+    unfolding withLabel
+    outed-both ne bi bj =
+        tally-next n f t (simp length-set)
+        (λ h b.
+        let first = more-at outs i s h (omega (arith, t .wide)) in
+        let second = more-at (more outs i s) j s h (simp length-set (omega (arith, t .wide))) in
+        omega (arith, crossing-both s i j h ne))
+
+  pub outed-done : Accepted n xs ys zs → {outs : List ℕ} {l : ℕ} → Tally n (outOf xs ys zs labels) outs l → l ≡ length xs → OutsOf (plantOf n xs ys zs) labels outs
+  unfolding plantOf
+  outed-done a t e h b =
+      t .so-far h b
+      ∙ ap (λ (m : ℕ). sum m (f h)) e
+      ∙ sym (out-sum xs ys zs (withLabel labels h) (a .one-length) (a .one-length′))
