@@ -56,10 +56,14 @@ slash = 47 ∷ []
 abbrev pub colon : List ℕ
 colon = 58 ∷ []
 
+-- the k pieces from i on, one after the other
+unfoldable pub pieces : (ℕ → List ℕ) → ℕ → ℕ → List ℕ
+pieces piece i zero = []
+pieces piece i (suc k) = piece i ++ pieces piece (suc i) k
+
 -- the devices of the group with head h among the k devices from v on, rising, each behind a comma
 unfoldable pub othersText : List ℕ → ℕ → ℕ → ℕ → List ℕ
-othersText level h v zero = []
-othersText level h v (suc k) = cond (eqb (getD level v 0) h) (fieldText comma [] v) [] ++ othersText level h (suc v) k
+othersText level h v k = pieces (λ (i : ℕ). cond (eqb (getD level i 0) h) (fieldText comma [] i) []) v k
 
 -- "In a group row the number before the colon is the head, the lowest device of the group; then come its devices, rising.": the head, and the devices after it
 unfoldable pub groupText : ℕ → List ℕ → ℕ → List ℕ
@@ -67,8 +71,7 @@ groupText n level h = fieldText groupKey colon h ++ digits h ++ othersText level
 
 -- "Groups rise by head.": of the k devices from h on, those that are their own label
 unfoldable pub groupsText : ℕ → List ℕ → ℕ → ℕ → List ℕ
-groupsText n level h zero = []
-groupsText n level h (suc k) = cond (eqb (getD level h 0) h) (groupText n level h) [] ++ groupsText n level (suc h) k
+groupsText n level h k = pieces (λ (i : ℕ). cond (eqb (getD level i 0) i) (groupText n level i) []) h k
 
 -- "groups the number of groups": how many of the k devices from h on are their own label
 unfoldable pub headCount : List ℕ → ℕ → ℕ → ℕ
@@ -86,9 +89,7 @@ levelText n i level has p q =
 
 -- the k levels from i on, of count levels: each but the last has a low rate
 unfoldable pub levelsText : ℕ → ℕ → (ℕ → List ℕ) → (ℕ → ℕ) → (ℕ → ℕ) → ℕ → ℕ → List ℕ
-levelsText n count level lowP lowQ i zero = []
-levelsText n count level lowP lowQ i (suc k) =
-    levelText n i (level i) (ltb (suc i) count) (lowP i) (lowQ i) ++ levelsText n count level lowP lowQ (suc i) k
+levelsText n count level lowP lowQ i k = pieces (λ (j : ℕ). levelText n j (level j) (ltb (suc j) count) (lowP j) (lowQ j)) i k
 
 -- "hierarchy=1 is the listing's edition, devices is n, levels the number of levels."
 unfoldable pub listing : ℕ → ℕ → (ℕ → List ℕ) → (ℕ → ℕ) → (ℕ → ℕ) → List ℕ
