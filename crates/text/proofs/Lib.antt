@@ -16,6 +16,7 @@
 --     PlaceForms  the form of a text names no text line that is as expected
 --     PlaceStated the text lines before the one that it names are as expected
 --     PlaceLaws   the place of 15
+--     ListingBound how long a listing can get
 --     Examples    worked texts, computed
 pub mod Steps
 pub mod Fields
@@ -34,4 +35,5 @@ pub mod PlaceLines
 pub mod PlaceForms
 pub mod PlaceStated
 pub mod PlaceLaws
+pub mod ListingBound
 pub mod Examples

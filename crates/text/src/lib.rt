@@ -1,5 +1,6 @@
 // The text part: reading a plant text into lent lists, and writing one. Document 01, "Plant text and listing".
 mod lines;
+mod listing;
 pub mod read;
 mod whole;
 pub mod write;

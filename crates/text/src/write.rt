@@ -10,7 +10,7 @@ ghost use Rattle.text.specs.Form.{rowsText, plantText};
 ghost use Rattle.text.specs.Writing.{placed, WriteIs};
 
 // Copies a word to a place of the list, and answers the place after it.
-fn put(bytes: &mut [u8], at: usize, word: &[u8]) -> usize
+pub(crate) fn put(bytes: &mut [u8], at: usize, word: &[u8]) -> usize
     requires { ⌜ at + length (now word) ≤ length (now bytes) ⌝ }
     ensures { λ r. ⌜
         (r ≡ at + length (now (word .entry))) × (now (bytes .exit) ≡ placed (now (bytes .entry)) at (now (word .entry))) ⌝ }
@@ -42,7 +42,7 @@ fn decimals(d: &mut [u8; 9], v: usize) -> usize
 }
 
 // Writes a field: a key, a number, and what ends it.
-fn put_field(bytes: &mut [u8], at: usize, key: &[u8], v: usize, stop: &[u8]) -> usize
+pub(crate) fn put_field(bytes: &mut [u8], at: usize, key: &[u8], v: usize, stop: &[u8]) -> usize
     requires { ⌜ at + length (fieldText (now key) (now stop) v) ≤ length (now bytes) ⌝ }
     ensures { λ r. ⌜
         (r ≡ at + length (fieldText (now (key .entry)) (now (stop .entry)) v))
