@@ -1,5 +1,5 @@
 -- Words and pieces of a listing written one after the other, and the heads of a level counted.
---     Left        the word done is written, and there is room for the words that are left
+--     Left        what was written of the words of a text: those before the words that are left
 --     Pieces      what a loop over indices has written: the pieces before those that are left
 --     Heads       what a loop over devices has counted: the heads before those that are left
 -- Assumes nothing.
@@ -28,25 +28,33 @@ unfolding joined
 joined-long done [] = omega arith
 joined-long done (w ∷ ws) = omega (arith, length-append done w, joined-long (done ++ w) ws)
 
-pub record Left (old : List ℕ) (at : ℕ) (done : List ℕ) (ws : List (List ℕ)) (to : ℕ) (new : List ℕ) : Type 0 where
-  pub room : at + length (joined done ws) ≤ length old
+-- of the text whole, all is written but the words ws at its end
+pub record Left (old : List ℕ) (at : ℕ) (whole : List ℕ) (ws : List (List ℕ)) (to : ℕ) (new : List ℕ) : Type 0 where
+  pub room : at + length whole ≤ length old
+  pub done : List ℕ
+  pub all : joined done ws ≡ whole
   pub wrote : Wrote old at done to new
 
-pub left-start : (old : List ℕ) (at : ℕ) (ws : List (List ℕ)) → at + length (joined [] ws) ≤ length old → Left old at [] ws at old
-left-start old at ws room = record { room = room; wrote = wrote-none old at (omega arith) }
+pub left-start : (old : List ℕ) (at : ℕ) (ws : List (List ℕ)) → at + length (joined [] ws) ≤ length old → Left old at (joined [] ws) ws at old
+left-start old at ws room = record { room = room; done = []; all = refl; wrote = wrote-none old at (omega arith) }
 
-module _ {old : List ℕ} {at : ℕ} {done w : List ℕ} {ws : List (List ℕ)} {to : ℕ} {mid : List ℕ} (l : Left old at done (w ∷ ws) to mid) where
-  next-fits : at + length (done ++ w) ≤ length old
+pub left-none : {old : List ℕ} {at : ℕ} {whole : List ℕ} {to : ℕ} {new : List ℕ} → Left old at whole [] to new → Wrote old at whole to new
+unfolding joined
+left-none {old} {at} {whole} {to} {new} l = wrote-as old at to new (l .all) (l .wrote)
+
+module _ {old : List ℕ} {at : ℕ} {whole w : List ℕ} {ws : List (List ℕ)} {to : ℕ} {mid : List ℕ} (l : Left old at whole (w ∷ ws) to mid) where
+  next-fits : at + length (l .done ++ w) ≤ length old
   unfolding joined
-  next-fits = omega (arith, l .room, joined-long (done ++ w) ws)
+  next-fits = omega (arith, l .room, ap length (l .all), joined-long (l .done ++ w) ws)
 
   -- there is room for the next word
   pub left-room : to + length w ≤ length mid
-  left-room = wrote-room old at done w next-fits (l .wrote)
+  left-room = wrote-room old at (l .done) w next-fits (l .wrote)
 
-  pub left-then : {end : ℕ} {new : List ℕ} → Wrote mid to w end new → Left old at (done ++ w) ws end new
+  pub left-then : {end : ℕ} {new : List ℕ} → Wrote mid to w end new → Left old at whole ws end new
   unfolding joined
-  left-then {end} {new} b = record { room = l .room; wrote = wrote-then old at done w next-fits (l .wrote) end new b }
+  left-then {end} {new} b =
+      record { room = l .room; done = l .done ++ w; all = l .all; wrote = wrote-then old at (l .done) w next-fits (l .wrote) end new b }
 
 -- the piece i and those after it, up to the index end
 pub pieces-here : (piece : ℕ → List ℕ) (i end : ℕ) → i < end → pieces piece i (end - i) ≡ piece i ++ pieces piece (i + 1) (end - (i + 1))
@@ -69,41 +77,55 @@ pub record Pieces (piece : ℕ → List ℕ) (end : ℕ) (whole old : List ℕ) 
   pub wrote : Wrote old at text to new
   pub long : length new ≡ length old
 
-module _ (piece : ℕ → List ℕ) (end : ℕ) (whole old : List ℕ) (at : ℕ) (room : at + length whole ≤ length old) where
-  pub pieces-start : (i : ℕ) → i ≤ end → pieces piece i (end - i) ≡ whole → Pieces piece end whole old at old at i
-  pieces-start i h e = record { most = h; text = []; all = e; wrote = wrote-none old at (omega arith); long = refl }
+pub pieces-start : (piece : ℕ → List ℕ) (end : ℕ) (whole old : List ℕ) (at : ℕ) → at + length whole ≤ length old → (i : ℕ) → i ≤ end
+    → pieces piece i (end - i) ≡ whole → Pieces piece end whole old at old at i
+pieces-start piece end whole old at room i h e = record { most = h; text = []; all = e; wrote = wrote-none old at (omega arith); long = refl }
 
-  module _ {new : List ℕ} {to i : ℕ} (r : Pieces piece end whole old at new to i) where
-    pub pieces-all : end ≤ i → Wrote old at whole to new
-    pieces-all h = wrote-as old at to new (sym (append-nil (r .text)) ∙ ap (λ (l : List ℕ). r .text ++ l) (sym (pieces-past piece i end h)) ∙ r .all) (r .wrote)
+pub pieces-from-0 : (piece : ℕ → List ℕ) (end : ℕ) (old : List ℕ) (at : ℕ) → at + length (pieces piece 0 end) ≤ length old
+    → Pieces piece end (pieces piece 0 end) old at old at 0
+pieces-from-0 piece end old at room =
+    let e : end - 0 ≡ end = omega arith in
+    pieces-start piece end (pieces piece 0 end) old at room 0 zero-le (rw e refl)
 
-    module _ (less : i < end) (w : List ℕ) (is : piece i ≡ w) where
-      rest : r .text ++ w ++ pieces piece (i + 1) (end - (i + 1)) ≡ whole
-      rest =
-          append-assoc (r .text) w _
-          ∙ ap (λ (l : List ℕ). r .text ++ l) (sym (pieces-here piece i end less ∙ ap (λ (l : List ℕ). l ++ pieces piece (i + 1) (end - (i + 1))) is))
-          ∙ r .all
+module _ {piece : ℕ → List ℕ} {end : ℕ} {whole old : List ℕ} {at : ℕ} (room : at + length whole ≤ length old)
+    {new : List ℕ} {to i : ℕ} (r : Pieces piece end whole old at new to i) where
+  pub pieces-all : end ≤ i → Wrote old at whole to new
+  pieces-all h = wrote-as old at to new (sym (append-nil (r .text)) ∙ ap (λ (l : List ℕ). r .text ++ l) (sym (pieces-past piece i end h)) ∙ r .all) (r .wrote)
 
-      fits : at + length (r .text ++ w) ≤ length old
-      fits = omega (arith, room, ap length (sym rest), length-append (r .text ++ w) (pieces piece (i + 1) (end - (i + 1))))
+  module _ (less : i < end) {w : List ℕ} (is : piece i ≡ w) where
+    rest : r .text ++ w ++ pieces piece (i + 1) (end - (i + 1)) ≡ whole
+    rest =
+        append-assoc (r .text) w _
+        ∙ ap (λ (l : List ℕ). r .text ++ l) (sym (pieces-here piece i end less ∙ ap (λ (l : List ℕ). l ++ pieces piece (i + 1) (end - (i + 1))) is))
+        ∙ r .all
 
-      pub pieces-room : to + length w ≤ length new
-      pieces-room = wrote-room old at (r .text) w fits (r .wrote)
+    fits : at + length (r .text ++ w) ≤ length old
+    fits = omega (arith, room, ap length (sym rest), length-append (r .text ++ w) (pieces piece (i + 1) (end - (i + 1))))
 
-      pub pieces-more : (to' : ℕ) (last : List ℕ) → Wrote new to w to' last → Pieces piece end whole old at last to' (i + 1)
-      pieces-more to' last b =
-          let wrote : Wrote old at (r .text ++ w) to' last = wrote-then old at (r .text) w fits (r .wrote) to' last b in
-          record {
-            most = omega arith;
-            text = r .text ++ w;
-            all = rest;
-            wrote = wrote;
-            long = ap length (wrote .1) ∙ placed-length old at (r .text ++ w) fits;
-          }
+    pub pieces-room : to + length w ≤ length new
+    pieces-room = wrote-room old at (r .text) w fits (r .wrote)
 
-    -- a piece that is empty takes no writing
-    pub pieces-none : i < end → piece i ≡ [] → Pieces piece end whole old at new to (i + 1)
-    pieces-none less is = pieces-more less [] is to new (wrote-none new to (omega (arith, pieces-room less [] is)))
+    pub pieces-more : {to' : ℕ} {last : List ℕ} → Wrote new to w to' last → Pieces piece end whole old at last to' (i + 1)
+    pieces-more {to'} {last} b =
+        let wrote : Wrote old at (r .text ++ w) to' last = wrote-then old at (r .text) w fits (r .wrote) to' last b in
+        record {
+          most = omega arith;
+          text = r .text ++ w;
+          all = rest;
+          wrote = wrote;
+          long = ap length (wrote .1) ∙ placed-length old at (r .text ++ w) fits;
+        }
+
+  -- a piece that is empty takes no writing
+  pub pieces-none : i < end → piece i ≡ [] → Pieces piece end whole old at new to (i + 1)
+  pieces-none less is = pieces-more less is (wrote-none new to (omega (arith, pieces-room less is)))
+
+-- a piece that is written only where two numbers are equal
+pub piece-taken : {w : List ℕ} (a b : ℕ) → a ≡ b → cond (eqb a b) w [] ≡ w
+piece-taken a b e = rw (eq-eqb a b e) refl
+
+pub piece-left : (w : List ℕ) (a b : ℕ) → (a ≡ b → ⊥) → cond (eqb a b) w [] ≡ []
+piece-left w a b e = rw (ne-eqb a b e) refl
 
 -- device h and those after it, up to the device n
 pub heads-here : (level : List ℕ) (h n : ℕ) → h < n

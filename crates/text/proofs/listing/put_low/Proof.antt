@@ -6,14 +6,14 @@ use mathlib.Core.List.{[], _∷_}
 use borrow.Author.Needs.{needs}
 use Rattle.text.specs.Lines.{newline, fieldText}
 use Rattle.text.specs.Listing.{lowKey, slash, lowText}
-use Rattle.text.proofs.ListingLaws.{joined, Left, left-start, left-room, left-then}
+use Rattle.text.proofs.ListingLaws.{joined, Left, left-start, left-room, left-then, left-none}
 use Rattle.text.proofs.listing.put_low.Statement.{statement}
 use Rattle.text.proofs.listing.put_low.Tie as tie
 
 none : (c : tie.Start) → c .args .has ≡ true
-    → Left (c .args .bytes .now) (c .args .at) [] (fieldText lowKey slash (c .args .p) ∷ fieldText [] newline (c .args .q) ∷ []) (c .args .at) (c .args .bytes .now)
+    → Left (c .args .bytes .now) (c .args .at) (lowText (c .args .has) (c .args .p) (c .args .q)) (fieldText lowKey slash (c .args .p) ∷ fieldText [] newline (c .args .q) ∷ []) (c .args .at) (c .args .bytes .now)
 unfolding lowText joined
-none c has = left-start (c .args .bytes .now) (c .args .at) _ (rw has at (c .pre))
+none c has = rw has (left-start (c .args .bytes .now) (c .args .at) _ (rw has at (c .pre)))
 
 slice-aggregate-put-field : tie.Need-slice-aggregate-put-field
 slice-aggregate-put-field c = search needs
@@ -42,12 +42,11 @@ same-length : tie.Need-same-length
 same-length c = search needs
 
 returns : tie.Need-returns
-unfolding lowText
 returns c =
     let at-put-field2 = c .before .before in
     let at-put-field = at-put-field2 .before .before .before .before .before .before in
     let at-then = at-put-field .before .before .before .before in
-    rw (at-then .if1 .taken) (left-then (left-then (none (at-then .before .before) (at-then .if1 .taken)) (at-put-field .put-field .ensures)) (at-put-field2 .put-field2 .ensures) .wrote)
+    left-none (left-then (left-then (none (at-then .before .before) (at-then .if1 .taken)) (at-put-field .put-field .ensures)) (at-put-field2 .put-field2 .ensures))
 
 slice-aggregate-put : tie.Need-slice-aggregate-put
 slice-aggregate-put c = search needs

@@ -5,12 +5,12 @@ use mathlib.Core.List.{List, [], _∷_}
 use borrow.Author.Needs.{needs}
 use Rattle.text.specs.Lines.{newline, fieldText}
 use Rattle.text.specs.Listing.{refusedKey, atKey, refusedText}
-use Rattle.text.proofs.ListingLaws.{joined, Left, left-start, left-room, left-then}
+use Rattle.text.proofs.ListingLaws.{joined, Left, left-start, left-room, left-then, left-none}
 use Rattle.text.proofs.listing.put_refusal.Statement.{statement}
 use Rattle.text.proofs.listing.put_refusal.Tie as tie
 
-none : (c : tie.Start) →
-    Left (c .args .bytes .now) (c .args .at) [] (fieldText refusedKey newline (c .args .number) ∷ fieldText atKey newline (c .args .place) ∷ []) (c .args .at) (c .args .bytes .now)
+none : (c : tie.Start)
+    → Left (c .args .bytes .now) (c .args .at) (refusedText (c .args .number) (c .args .place)) (fieldText refusedKey newline (c .args .number) ∷ fieldText atKey newline (c .args .place) ∷ []) (c .args .at) (c .args .bytes .now)
 unfolding refusedText joined
 none c = left-start (c .args .bytes .now) (c .args .at) _ (c .pre)
 
@@ -38,11 +38,10 @@ same-length : tie.Need-same-length
 same-length c = search needs
 
 returns : tie.Need-returns
-unfolding refusedText
 returns c =
     let at-put-field2 = c .before .before in
     let at-put-field = at-put-field2 .before .before .before .before .before .before in
-    left-then (left-then (none (at-put-field .before .before .before .before .before)) (at-put-field .put-field .ensures)) (at-put-field2 .put-field2 .ensures) .wrote
+    left-none (left-then (left-then (none (at-put-field .before .before .before .before .before)) (at-put-field .put-field .ensures)) (at-put-field2 .put-field2 .ensures))
 
 pub put-refusal-spec : {M : Type 1} → statement M
 put-refusal-spec =
