@@ -4,17 +4,16 @@
 --     Heads       what a loop over devices has counted: the heads before those that are left
 -- Assumes nothing.
 use Prim.Native.Nat.{ℕ, suc, _+_, _-_, _≤_, _<_, zero-le}
-use native.Mathlib.Nat.{add-zero, zero-add}
+use native.Mathlib.Nat.{zero-add}
 use native.Mathlib.Numerals.{add-one}
 use native.Mathlib.Omega.{arith}
 use mathlib.Core.Path.{_≡_, refl, sym, ap, _∙_}
-use mathlib.Core.Bool.{Bool, true, false, cond}
+use mathlib.Core.Bool.{cond}
 use mathlib.Core.List.{List, [], _∷_, _++_, append-assoc, append-nil}
 use lib.Dec.{eqb}
 use lib.ListN.{length, getD, length-append}
 use borrow.Author.Tests.{eq-eqb, ne-eqb}
 use Rattle.text.specs.Listing.{pieces, headCount}
-use Rattle.text.specs.Writing.{placed}
 use Rattle.text.proofs.Placed.{placed-length}
 use Rattle.text.proofs.Wrote.{Wrote, wrote-as, wrote-none, wrote-room, wrote-then}
 

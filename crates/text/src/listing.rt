@@ -3,7 +3,6 @@ use crate::write::put;
 use crate::write::put_field;
 ghost use mathlib.Core.Path.{_≡_};
 ghost use Prim.Native.Nat.{suc, _+_, _-_, _*_, _≤_, _<_};
-ghost use lib.Dec.{ltb};
 ghost use lib.ListN.{length, getD, take, drop};
 ghost use Rattle.text.specs.Listing.{othersText, groupText, groupsText, headCount, lowText, levelText, levelsText, listing, refusedText};
 ghost use Rattle.text.specs.Writing.{placed};

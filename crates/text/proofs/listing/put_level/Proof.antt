@@ -6,7 +6,7 @@ use mathlib.Core.List.{List, [], _∷_}
 use borrow.Author.Needs.{needs}
 use Rattle.text.specs.Lines.{newline, fieldText}
 use Rattle.text.specs.Listing.{levelKey, groupsKey, headCount, lowText, groupsText, levelText}
-use Rattle.text.proofs.Wrote.{Wrote, wrote-as}
+use Rattle.text.proofs.Wrote.{wrote-as}
 use Rattle.text.proofs.ListingLaws.{joined, Left, left-start, left-room, left-then, left-none}
 use Rattle.text.proofs.listing.put_level.Statement.{statement}
 use Rattle.text.proofs.listing.put_level.Tie as tie

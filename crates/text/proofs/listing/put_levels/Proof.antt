@@ -50,26 +50,25 @@ loop-holds c =
     let start = c .before .before .before .before in
     pieces-from-0 (piece (start .args .n) (start .args .levels) (start .args .labels .now) (start .args .low-p .now) (start .args .low-q .now)) (start .args .levels) (start .args .bytes .now) (start .args .at) (start .pre .1)
 
+-- in a turn
+within : (c : tie.In-loop Inv-loop μ-loop) →
+    let start = c .before .before .before .before .before .before in
+    c .before .loop .i * start .args .n + start .args .n ≤ start .args .levels * start .args .n
+within c =
+    let start = c .before .before .before .before .before .before in
+    end-within (start .args .n) (start .args .levels) (c .before .loop .i) (c .loop-test .taken)
+
 mul-start : tie.Need-mul-start Inv-loop μ-loop
-mul-start c =
-    let at-loop-test = c in
-    let start = at-loop-test .before .before .before .before .before .before in
-    omega (arith, end-within (start .args .n) (start .args .levels) (at-loop-test .before .loop .i) (at-loop-test .loop-test .taken))
+mul-start c = omega (arith, within c)
 
 add-end : tie.Need-add-end Inv-loop μ-loop
-add-end c =
-    let at-loop-test = c in
-    let start = at-loop-test .before .before .before .before .before .before in
-    omega (arith, end-within (start .args .n) (start .args .levels) (at-loop-test .before .loop .i) (at-loop-test .loop-test .taken))
+add-end c = omega (arith, within c)
 
 add-has : tie.Need-add-has Inv-loop μ-loop
 add-has c = omega arith
 
 mul-put-level : tie.Need-mul-put-level Inv-loop μ-loop
-mul-put-level c =
-    let at-loop-test = c .before in
-    let start = at-loop-test .before .before .before .before .before .before in
-    omega (arith, end-within (start .args .n) (start .args .levels) (at-loop-test .before .loop .i) (at-loop-test .loop-test .taken))
+mul-put-level c = omega (arith, within (c .before))
 
 sub-put-level : tie.Need-sub-put-level Inv-loop μ-loop
 sub-put-level c = omega arith
@@ -78,10 +77,7 @@ part-put-level-start : tie.Need-part-put-level-start Inv-loop μ-loop
 part-put-level-start c = omega arith
 
 part-put-level-end : tie.Need-part-put-level-end Inv-loop μ-loop
-part-put-level-end c =
-    let at-loop-test = c .before in
-    let start = at-loop-test .before .before .before .before .before .before in
-    omega (arith, end-within (start .args .n) (start .args .levels) (at-loop-test .before .loop .i) (at-loop-test .loop-test .taken))
+part-put-level-end c = omega (arith, within (c .before))
 
 mul-put-level-2 : tie.Need-mul-put-level-2 Inv-loop μ-loop
 mul-put-level-2 c = omega arith

@@ -7,7 +7,6 @@ use lib.ListN.{getD, take, drop}
 use borrow.Author.Needs.{needs}
 use Rattle.text.specs.Lines.{devicesKey, newline, fieldText}
 use Rattle.text.specs.Listing.{hierarchyLine, levelsKey, endListing, levelsText, listing}
-use Rattle.text.proofs.Wrote.{Wrote}
 use Rattle.text.proofs.ListingLaws.{joined, Left, left-start, left-room, left-then, left-none}
 use Rattle.text.proofs.listing.put_listing.Statement.{statement}
 use Rattle.text.proofs.listing.put_listing.Tie as tie

@@ -1,7 +1,6 @@
 -- `text::listing::put_refusal` meets its contract: two fields are written one after the other.
 -- Assumes nothing.
-use Prim.Native.Nat.{ℕ}
-use mathlib.Core.List.{List, [], _∷_}
+use mathlib.Core.List.{[], _∷_}
 use borrow.Author.Needs.{needs}
 use Rattle.text.specs.Lines.{newline, fieldText}
 use Rattle.text.specs.Listing.{refusedKey, atKey, refusedText}
