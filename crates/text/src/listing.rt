@@ -2,8 +2,7 @@
 use crate::write::put;
 use crate::write::put_field;
 ghost use mathlib.Core.Path.{_≡_};
-ghost use Prim.Native.Nat.{_+_, _-_, _*_, _≤_, _<_};
-ghost use lib.Dec.{ltb};
+ghost use Prim.Native.Nat.{suc, _+_, _-_, _*_, _≤_, _<_};
 ghost use lib.ListN.{length, getD, take, drop};
 ghost use Rattle.text.specs.Listing.{othersText, groupText, groupsText, headCount, lowText, levelText, levelsText, listing, refusedText};
 ghost use Rattle.text.specs.Writing.{placed};
@@ -11,10 +10,10 @@ ghost use Rattle.text.specs.Writing.{placed};
 // Writes the devices after h of the group with head h, each behind a comma.
 fn put_others(bytes: &mut [u8], at: usize, n: usize, level: &[usize], h: usize) -> usize
     requires { ⌜ (n ≤ 128) × (length (now level) ≡ n) × (h < n) ⌝ }
-    requires { ⌜ at + length (othersText (now level) h (h + 1) (n - (h + 1))) ≤ length (now bytes) ⌝ }
+    requires { ⌜ at + length (othersText (now level) h (suc h) (n - suc h)) ≤ length (now bytes) ⌝ }
     ensures { λ r. ⌜
-        (r ≡ at + length (othersText (now (level .entry)) h (h + 1) (n - (h + 1))))
-        × (now (bytes .exit) ≡ placed (now (bytes .entry)) at (othersText (now (level .entry)) h (h + 1) (n - (h + 1)))) ⌝ }
+        (r ≡ at + length (othersText (now (level .entry)) h (suc h) (n - suc h)))
+        × (now (bytes .exit) ≡ placed (now (bytes .entry)) at (othersText (now (level .entry)) h (suc h) (n - suc h))) ⌝ }
 {
     let mut to = at;
     let mut v = h + 1;
