@@ -14,8 +14,8 @@ ghost use Rattle.rules.specs.Community.{community};
 ghost use Rattle.rules.specs.Groups.{table};
 ghost use Rattle.rules.specs.Rates.{rateOk};
 ghost use Rattle.rules.specs.Refusals.{Accepted};
-ghost use Rattle.cut.specs.Search.{sum};
 ghost use Rattle.rules.specs.Lists.{over};
+ghost use Rattle.rules.specs.Numbers.{sum};
 ghost use Rattle.cut.specs.Calls.{marksOf, communityAnswer, communityMarks};
 
 // Number and place, and of an accepted call the size and the out of the community.

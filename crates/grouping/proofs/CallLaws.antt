@@ -15,7 +15,6 @@ use Rattle.rules.proofs.RefusalLaws.{accepted-sound}
 use Rattle.rules.specs.Lists.{over}
 use Rattle.cut.specs.Calls.{wantedIn, ownersFault, ownersOf, ownersAfter}
 use Rattle.rules.proofs.RangeLaws.{InRange, range-in}
-use Rattle.grouping.specs.declared.level.Level.{Level}
 use Rattle.grouping.specs.Calls.{groupingFault, groupingAnswer, labelsAfter}
 use Rattle.grouping.specs.Level.{firstWith, IsLevel, Enough, ownsItself, Between}
 use Rattle.grouping.proofs.FaultLaws.{Clear, owners-done, owners-cases, grouping-short, grouping-done}

@@ -26,9 +26,8 @@ use Rattle.rules.proofs.LevelLaws.{squeeze, same-number, some-group, most-group
 use Rattle.rules.proofs.LabelLaws.{table-agree}
 use Rattle.rules.proofs.LadderLaws.{hierarchy-of, hierarchy-sole}
 use Rattle.grouping.specs.declared.level.Level.{Level}
-use Rattle.grouping.specs.declared.hierarchy.Levels.{Levels}
 use Rattle.grouping.specs.Calls.{rowOf, hierarchyFault, PastKept, Listed, HierarchyIs}
-use Rattle.grouping.specs.Level.{Labelled, IsLevel}
+use Rattle.grouping.specs.Level.{IsLevel}
 use Rattle.grouping.specs.Stretch.{SomeSpan, Span, Ready, KeptOutside, Searched}
 use Rattle.grouping.proofs.SearchLaws.{kept-join}
 

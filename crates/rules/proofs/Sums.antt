@@ -8,7 +8,7 @@ use Prim.Native.Nat.{ℕ, zero, suc, _+_, _*_, _≤_, _<_}
 use mathlib.Core.Path.{_≡_, refl, ap, sym, _∙_, fun-ext}
 use mathlib.Core.Bool.{Bool, true, false, not, _&&_, _||_, cond, false≢true}
 use mathlib.Core.List.{List, [], _∷_}
-use native.Mathlib.Nat.{le-refl, le-step, mul-add, mul-le-mul-left, lt-suc-self, le-suc-iff, suc-inj, eq-zero-or-pos}
+use native.Mathlib.Nat.{le-refl, le-step, mul-add, mul-le-mul-left, lt-suc-self, eq-zero-or-pos}
 use native.Mathlib.Omega.{arith}
 use mathlib.Core.Logic.{_⊎_, inl, inr}
 use Rattle.rules.proofs.SetLaws.{below-suc}

@@ -8,6 +8,7 @@
 --     Rates       accepted rates, the least and the largest, order of fractions, lowest terms
 --     Refusals    each cause of a refusal, and the first in the fixed order
 --     Lists       a lent list after a call
+--     Numbers     a sum of numbers; no public contract cites it
 --     Hierarchy   levels, low rates and joining rates
 --     Stretch     what the search between two levels finds; no public contract cites it
 --     Figures     K1 to K12 as a list
@@ -20,6 +21,7 @@ pub mod Sweep
 pub mod Rates
 pub mod Refusals
 pub mod Lists
+pub mod Numbers
 pub mod Hierarchy
 pub mod Stretch
 pub mod Figures
