@@ -15,7 +15,7 @@ ghost use Rattle.rules.specs.Cut.{size, out};
 ghost use Rattle.rules.specs.Community.{community};
 ghost use Rattle.rules.specs.Groups.{table};
 ghost use Rattle.rules.specs.Rates.{rateOk};
-ghost use Rattle.rules.specs.Refusals.{Accepted};
+ghost use Rattle.rules.specs.Accepted.{Accepted};
 ghost use Rattle.rules.specs.Lists.{over};
 ghost use Rattle.rules.specs.Numbers.{sum};
 ghost use Rattle.cut.specs.Calls.{marksOf, communityAnswer, communityMarks};

@@ -12,7 +12,7 @@ ghost use Prim.Native.Nat.{ℕ, _+_, _*_, _≤_, _<_, _^_};
 ghost use Rattle.rules.specs.Plant.{plantOf};
 ghost use Rattle.rules.specs.Community.{communityIn};
 ghost use Rattle.rules.specs.Rates.{rateOk};
-ghost use Rattle.rules.specs.Refusals.{Accepted};
+ghost use Rattle.rules.specs.Accepted.{Accepted};
 ghost use Rattle.cut.specs.Calls.{fenceOf};
 ghost use Rattle.cut.specs.Search.{Laid, Lasts, Priors, Led, Spares};
 

@@ -15,7 +15,7 @@ ghost use Rattle.rules.specs.Plant.{plantOf};
 ghost use Rattle.rules.specs.Community.{communityIn};
 ghost use Rattle.rules.specs.Groups.{table};
 ghost use Rattle.rules.specs.Rates.{rateOk};
-ghost use Rattle.rules.specs.Refusals.{Accepted};
+ghost use Rattle.rules.specs.Accepted.{Accepted};
 ghost use Rattle.cut.specs.Search.{Lasts, Priors};
 ghost use Rattle.rules.specs.Lists.{over};
 ghost use Rattle.cut.specs.Calls.{fenceOf, ownersOf, ownersFault, ownersAfter};

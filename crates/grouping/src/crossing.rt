@@ -6,7 +6,7 @@ ghost use mathlib.Core.Path.{_≡_};
 ghost use Prim.Native.Nat.{ℕ, _-_, _≤_, _<_};
 ghost use lib.ListN.{getD};
 ghost use Rattle.rules.specs.Plant.{Plant, plantOf};
-ghost use Rattle.rules.specs.Refusals.{Accepted};
+ghost use Rattle.rules.specs.Accepted.{Accepted};
 ghost use Rattle.grouping.specs.Stretch.{LabelsBelow, SizesOf, OutsOf, Greatest, LeastOf, CrossingRate, Apart};
 
 // For each label a rate.

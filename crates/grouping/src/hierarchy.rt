@@ -12,7 +12,7 @@ ghost use lib.Dec.{ltb};
 ghost use lib.ListN.{length, getD};
 ghost use Rattle.rules.specs.Plant.{plantOf};
 ghost use Rattle.rules.specs.Groups.{table};
-ghost use Rattle.rules.specs.Refusals.{Accepted};
+ghost use Rattle.rules.specs.Accepted.{Accepted};
 ghost use Rattle.grouping.specs.Calls.{rowOf, HierarchyIs, Listed};
 ghost use Rattle.grouping.specs.Stretch.{SomeSpan, Ready, KeptOutside, Searched};
 

@@ -9,7 +9,7 @@ ghost use mathlib.Core.Bool.{true};
 ghost use lib.ListN.{length};
 ghost use Rattle.rules.specs.Plant.{plantOf};
 ghost use Rattle.rules.specs.Rates.{rateOk};
-ghost use Rattle.rules.specs.Refusals.{Accepted};
+ghost use Rattle.rules.specs.Accepted.{Accepted};
 ghost use Rattle.cut.specs.Calls.{wantedIn};
 ghost use Rattle.grouping.specs.Level.{IsLevel, Enough, ownsItself, Between};
 
