@@ -6,10 +6,9 @@
 use Prim.Native.Nat.{ℕ, _+_, _*_, _≤_, _<_}
 use native.Mathlib.Nat.{zero-add, mul-le-mul}
 use native.Mathlib.Omega.{arith}
-use mathlib.Core.Path.{_≡_, refl, sym, ap, subst, _∙_}
+use mathlib.Core.Path.{_≡_, refl, sym, ap, _∙_}
 use mathlib.Core.List.{List, [], _∷_}
 use lib.ListN.{length, getD, take, drop}
-use lib.Seq.{take-at}
 use borrow.Author.Tests.{lt-ltb, le-ltb}
 use Rattle.rules.specs.declared.Refusal.{Refusal}
 use Rattle.rules.specs.Plant.{plantOf}
@@ -28,7 +27,8 @@ use Rattle.text.specs.Writing.{placed}
 use Rattle.text.specs.Shown.{textFault, statedPlant, ListingOf, Printed, listAnswer, ListIs, ShownText, ShownPlant}
 use Rattle.text.proofs.Judged.{values-length, front-fits}
 use Rattle.text.proofs.Accepted.{read-clean, text-right}
-use Rattle.text.proofs.ListingBound.{listing-fits, refused-most}
+use Rattle.text.proofs.ListingBound.{listing-fits}
+use Rattle.text.proofs.ShownLaws.{over-take}
 
 -- a word at the front of a list
 front-is : (old w : List ℕ) → placed old 0 w ≡ over w old
@@ -83,6 +83,7 @@ module _ (n : ℕ) (xs ys zs : List ℕ) (a : Accepted n xs ys zs) where
         lowP = λ i. getD lowP′ i 0;
         lowQ = λ i. getD lowQ′ i 0;
         hierarchy = plant-filled .hierarchy;
+        low-p-most = plant-filled .low-p-most;
         text = refl;
       };
       count = p .0;
@@ -131,8 +132,8 @@ module _ {t xs ys zs us vs ws : List ℕ} {r : Reading} (hx : length xs ≡ 1024
 
     -- the front of each list is what the text states, and lies within it
     front-stated : (g : Row → ℕ) (old : List ℕ) {new : List ℕ} → new ≡ readList fault g t old → take (r .lines) new ≡ valuesOf g t
-    unfolding readList over done
-    front-stated g old e = rw (e, right) (take-at (valuesOf g t) (drop (length (valuesOf g t)) old) (r .lines) (values-length g t ∙ sym lines-is))
+    unfolding readList done
+    front-stated g old e = rw (e, right) (over-take (valuesOf g t) old (r .lines) (values-length g t ∙ sym lines-is))
 
     firsts-are : take (r .lines) us ≡ firstsOf t
     firsts-are = front-stated (λ w. w .first) xs (i .firsts)
@@ -169,8 +170,7 @@ module _ {t xs ys zs us vs ws : List ℕ} {r : Reading} (hx : length xs ≡ 1024
 module _ {t space new : List ℕ} {k : ℕ} (s : ShownText t space k new) where
   -- the front of the list is what is printed
   list-front : take k new ≡ s .bytes
-  unfolding over
-  list-front = rw (s .front) (take-at (s .bytes) (drop (length (s .bytes)) space) k (sym (s .count)))
+  list-front = rw (s .front) (over-take (s .bytes) space k (sym (s .count)))
 
   pub list-within : k ≤ length new
   list-within = front-fits k new (ap length list-front ∙ sym (s .count))

@@ -1,6 +1,6 @@
 -- What the hierarchy program prints of a text, whole: document 01, "Plant text and listing".
 -- Assumes nothing.
-use Prim.Native.Nat.{ℕ}
+use Prim.Native.Nat.{ℕ, suc, _≤_, _<_}
 use mathlib.Core.Path.{_≡_}
 use mathlib.Core.Bool.{cond}
 use mathlib.Core.List.{List}
@@ -31,6 +31,8 @@ pub record ListingOf (g : Plant) (b : List ℕ) : Type 0 where
   pub lowP : ℕ → ℕ
   pub lowQ : ℕ → ℕ
   pub hierarchy : IsHierarchy g count level lowP lowQ
+  -- a low rate's p has at most 9 digits
+  pub low-p-most : (i : ℕ) → suc i < count → lowP i ≤ 67107840
   pub text : b ≡ listing (g .devices) count level lowP lowQ
 
 -- b is what the hierarchy program prints, given the text t: the listing of the plant that t states, or, "After a refusal it prints two lines"
