@@ -5,11 +5,6 @@ pub mod read;
 mod whole;
 pub mod write;
 
-// The place in a text, beside the text itself.
-pub(crate) struct Cursor {
-    pub at: usize,
-}
-
 // What stands at a place, where a number should: whether it is one, its value, and how many bytes it takes.
 pub(crate) struct Number {
     pub ok: bool,
