@@ -2,6 +2,7 @@
 mod lines;
 mod listing;
 pub mod read;
+mod reader;
 mod whole;
 pub mod write;
 
@@ -27,7 +28,7 @@ pub(crate) struct Passed {
     pub used: usize,
 }
 
-// The form of a text: the text line that is not as expected, or 0; the stated numbers; where the rows start.
+// The form of a text: the text line that is not as expected, or 0; the stated numbers; how many bytes come before the rows.
 pub(crate) struct Form {
     pub line: usize,
     pub devices: usize,

@@ -3,7 +3,7 @@
 use crate::Form;
 use crate::Reading;
 use crate::lines;
-use crate::whole;
+use crate::reader;
 use cut::check;
 use rules::Refusal;
 ghost use mathlib.Core.Path.{_≡_};
@@ -156,7 +156,7 @@ pub fn read_plant(
     if 32768 < text.len() {
         return refused(14, 0);
     }
-    let f = whole::form_of(text);
+    let f = reader::form_of(text);
     let h = head_fault(f);
     if h.number != 0 {
         return refused(h.number, h.place);

@@ -64,24 +64,25 @@ fn wrong_line(k: usize) -> Form
     }
 }
 
-// The form of a text.
-pub(crate) fn form_of(text: &[u8]) -> Form
-    ensures { λ r. ⌜ r ≡ form (now (text .entry)) ⌝ }
+// The form of the text from the place on.
+pub(crate) fn form_at(text: &[u8], at: usize) -> Form
+    requires { ⌜ at ≤ length (now text) ⌝ }
+    ensures { λ r. ⌜ r ≡ form (drop at (now (text .entry))) ⌝ }
 {
-    if !lines::goes_on(text, 0, b"plant=1\n") {
+    if !lines::goes_on(text, at, b"plant=1\n") {
         return wrong_line(1);
     }
-    let n = lines::field_at(text, 8, b"devices=", b"\n");
+    let n = lines::field_at(text, at + 8, b"devices=", b"\n");
     if !n.ok {
         return wrong_line(2);
     }
     let middle = 8 + n.used;
-    let m = lines::field_at(text, middle, b"lines=", b"\n");
+    let m = lines::field_at(text, at + middle, b"lines=", b"\n");
     if !m.ok {
         return wrong_line(3);
     }
     let start = middle + m.used;
-    let line = rows_fault(text, start, m.value);
+    let line = rows_fault(text, at + start, m.value);
     Form {
         line,
         devices: n.value,
