@@ -172,14 +172,18 @@ static void call_at_rates(uint32_t by_chance)
 
 /* The program. */
 
+/* In pieces, with a pause after each of the first three, so that the program gets a part of the text at a time. */
 static void send_all(int to, size_t piece)
 {
+	uint32_t pauses = 3;
 	for (size_t at = 0; at < now.len;) {
 		size_t left = now.len - at;
 		ssize_t done = write(to, now.text + at, left < piece ? left : piece);
 		if (done < 0 && errno != EINTR)
 			break;
 		at += done > 0 ? (size_t)done : 0;
+		if (at < now.len && pauses && pauses--)
+			usleep(3000);
 	}
 	close(to);
 }
@@ -199,7 +203,7 @@ static void receive_all(int from, pid_t child, struct buffer *got)
 	close(from);
 }
 
-/* Its standard input gets the text in pieces. 0 where it did not end by itself with status 0. */
+/* 0 where it did not end by itself with status 0. */
 static int run_program(size_t piece, struct buffer *got)
 {
 	extern char **environ;
@@ -224,12 +228,11 @@ static int run_program(size_t piece, struct buffer *got)
 	posix_spawnattr_destroy(&attributes);
 	close(in[0]);
 	close(out[1]);
-	if (status == 0) {
-		send_all(in[1], piece);
-		receive_all(out[0], child, got);
-		return waitpid(child, &status, 0) == child && status == 0;
-	}
-	return 0;
+	if (status != 0)
+		return close(in[1]), close(out[0]), 0;
+	send_all(in[1], piece);
+	receive_all(out[0], child, got);
+	return waitpid(child, &status, 0) == child && status == 0;
 }
 
 static void call_program(size_t piece)
@@ -289,7 +292,7 @@ static void random_plants(uint32_t times, uint32_t most)
 		random_plant(&plant, most);
 		take_plant(&plant);
 		call_at_rates(8);
-		call_program(i % 8 ? MAX_TEXT : 1 + below(40));
+		call_program(i % 16 ? MAX_TEXT : 1 + below(40));
 	}
 }
 
@@ -338,7 +341,7 @@ static void compare_text(const struct text *text, int run)
 	if (below(16) == 0)
 		call_desk(below(2), below(2), below(4));
 	if (run)
-		call_program(below(8) ? MAX_TEXT : 1 + below(20));
+		call_program(below(16) ? MAX_TEXT : 1 + below(20));
 }
 
 static void compare_edit(const struct text *base, size_t from, size_t to, const void *middle, size_t len, int run)
@@ -535,6 +538,10 @@ int main(int many, char **words)
 		return 2;
 	}
 	program = only ? NULL : words[many - 1];
+	if (program && access(program, X_OK) != 0) {
+		perror(program);
+		return 2;
+	}
 	signal(SIGPIPE, SIG_IGN);
 	seed(lengthy ? strtoull(words[2], NULL, 10) : 1);
 	self_checks();
