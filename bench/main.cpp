@@ -57,7 +57,9 @@ struct Figures {
     double time = 1e9, two_phases = 1e9, one_phase = 1e9;
     Work work;
     bool same = false;
-    double ratio() const { return std::min(two_phases, one_phase) / time; }
+    double lemon() const { return std::min(two_phases, one_phase); }
+    double ratio() const { return lemon() / time; }
+    double two_ratio() const { return two_phases / time; }
 };
 
 // Levels and stack, in runs of their own.
@@ -103,33 +105,40 @@ size_t small_plants_same() {
     return count;
 }
 
-// One table: of each plant the figures, and of a growing kind how much longer it took than the row above.
-double table(const std::vector<Plant>& plants, bool growing) {
-    printf("| plant | devices | lines | levels | rates | cuts | project, ms | LEMON, two phases | LEMON, one phase | ratio | %s |\n", growing ? "× the row above: project, LEMON" : "stack, bytes: project, LEMON");
+// A row of the table without its last column.
+void print_row(const Plant& g, const Figures& f) {
+    printf("| %s | %zu | %zu | %zu | %zu | %zu | %.3f | %.3f | %.3f | %.2f | ", g.name.c_str(), g.n, g.firsts.size(), f.levels, f.work.rates, f.work.cuts, f.time * 1e3, f.two_phases * 1e3,
+           f.one_phase * 1e3, f.ratio());
+}
+
+// The figures of each plant. The last column has the stack, or of a growing kind how much longer it took than the row above.
+void table(const std::vector<Plant>& plants, bool growing) {
+    const char* last = growing ? "times the row above: project, LEMON" : "stack, bytes: project, LEMON";
+    printf("| plant | devices | lines | levels | rates | cuts | project, ms | LEMON two phases, ms | LEMON one phase, ms | ratio | %s |\n", last);
     printf("|---|---|---|---|---|---|---|---|---|---|---|\n");
-    double logs = 0;
+    double logs = 0, two_logs = 0, count = double(plants.size());
     Figures above;
-    for (size_t i = 0; i < plants.size(); i++) {
-        const Plant& g = plants[i];
+    std::string kind;
+    for (const Plant& g : plants) {
         Figures f = measure(g);
         all_same = all_same && f.same;
         logs += std::log(f.ratio());
-        printf("| %s | %zu | %zu | %zu | %zu | %zu | %.3f | %.3f | %.3f | %.2f | ", g.name.c_str(), g.n, g.firsts.size(), f.levels, f.work.rates, f.work.cuts, f.time * 1e3, f.two_phases * 1e3,
-               f.one_phase * 1e3, f.ratio());
+        two_logs += std::log(f.two_ratio());
+        print_row(g, f);
         if (!growing) printf("%zu, %zu |\n", f.stack, f.lemon_stack);
-        else if (i == 0 || plants[i - 1].name != g.name) printf("|\n");
-        else printf("%.1f, %.1f |\n", f.time / above.time, std::min(f.two_phases, f.one_phase) / std::min(above.two_phases, above.one_phase));
+        else if (kind != g.name) printf("|\n");
+        else printf("%.1f, %.1f |\n", f.time / above.time, f.lemon() / above.lemon());
         fflush(stdout);
         above = f;
+        kind = g.name;
     }
-    return std::exp(logs / double(plants.size()));
+    printf("\nRatio: the faster LEMON time over the project's. Geometric mean of the ratios: %.2f; with two phases everywhere: %.2f\n\n", std::exp(logs / count), std::exp(two_logs / count));
 }
 
 } // namespace
 
 int main() {
-    double mean = table({uniform_plant(128, 1024), clustered_plant(128, 1024), nested_plant(128, 1024), geometric_plant(128, 1024), tied_plant(128, 1024), path_plant(128), tree_plant(128)}, false);
-    printf("\nRatio: the faster LEMON time over the project's. Geometric mean of the ratios: %.2f\n\n", mean);
+    table({uniform_plant(128, 1024), clustered_plant(128, 1024), nested_plant(128, 1024), geometric_plant(128, 1024), tied_plant(128, 1024), path_plant(128), tree_plant(128)}, false);
     Figures deep;
     look(rising_path_plant(128), deep);
     all_same = all_same && deep.same;
@@ -138,6 +147,6 @@ int main() {
            clustered_plant(128, 1024)},
           true);
     size_t small = small_plants_same();
-    printf("\nLevels, labels and low rates: %s on the plants above, and the same on %zu of %zu small plants\n", all_same ? "the same" : "NOT THE SAME", small, SMALL_PLANTS);
+    printf("Levels, labels and low rates: %s on the plants above, and the same on %zu of %zu small plants\n", all_same ? "the same" : "NOT THE SAME", small, SMALL_PLANTS);
     return all_same && small == SMALL_PLANTS ? 0 : 1;
 }
