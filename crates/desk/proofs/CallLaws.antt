@@ -11,7 +11,8 @@ use borrow.Author.Tests.{ne-eqb}
 use Rattle.rules.specs.declared.Refusal.{Refusal}
 use Rattle.rules.specs.Plant.{Plant, plantOf}
 use Rattle.rules.specs.Groups.{table, label, groups, distinct}
-use Rattle.rules.specs.Refusals.{done, Accepted}
+use Rattle.rules.specs.Refusals.{done}
+use Rattle.rules.specs.Accepted.{Accepted}
 use Rattle.rules.specs.Lists.{over}
 use Rattle.rules.proofs.RefusalLaws.{orElse-first, orElse-next, done-accepted, accepted-sound}
 use Rattle.rules.proofs.RangeLaws.{range-in}

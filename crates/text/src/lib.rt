@@ -1,7 +1,9 @@
-// The text part: reading a plant text into lent lists, and writing one. Document 01, "Plant text and listing".
+// The text part: reading a plant text into lent lists, writing one, and listing the hierarchy of the plant that a text states.
+// Document 01, "Plant text and listing".
 mod lines;
 mod listing;
 pub mod read;
+pub mod show;
 mod whole;
 pub mod write;
 
@@ -48,7 +50,7 @@ pub struct Reading {
     pub lines: usize,
 }
 
-// What writing answers.
+// What writing and listing answer.
 pub struct Written {
     pub number: usize,
     pub place: usize,
