@@ -1,5 +1,6 @@
 -- `desk::grouped` meets its contract: reading gives the faults of the text and of the plant that it states, finding the groups then 9, and
 -- 12 is left for the labels. Assumes nothing.
+use native.Mathlib.Omega.{arith}
 use lib.ListN.{replicate}
 use mathlib.Core.Path.{refl, sym}
 use borrow.Author.Needs.{needs}
@@ -65,13 +66,13 @@ found c = found-in (known (c .before .before .before .before .before)) (replicat
 returns-2 : tie.Need-returns-2
 returns-2 c =
     let at = c .before .before .before in
-    rate-refused _ _ _ _ (known (at .before .before .before .before .before) .right) (found at) (c .if2 .taken)
+    rate-refused _ _ _ _ (known (at .before .before .before .before .before) .right) (found at) (λ z. omega (arith, c .if2 .taken))
 
 returns-3 : tie.Need-returns-3
 returns-3 c =
     let at = c .before .before .before .before in
     let s = known (at .before .before .before .before .before) in
-    too-short _ _ _ _ (s .right) (found at) (c .before .if2 .left) (rw (s .devices) at (c .if3 .taken))
+    too-short _ _ _ _ (s .right) (found at) (omega (arith, c .before .if2 .left)) (rw (s .devices) at (c .if3 .taken))
 
 put-labels-requires : tie.Need-put-labels-requires
 put-labels-requires c κs =
@@ -79,7 +80,7 @@ put-labels-requires c κs =
     let s = known (at .before .before .before .before .before) in
     let start = at .before .before .before .before .before .before .before .before .before .before .before .before .before .before .before .before in
     rw (s .devices)
-    (few _ (s .right), rw (s .devices) at (c .before .before .if3 .left), found-devices _ _ _ (start .args .labels .now) (s .right) (found at) (c .before .before .before .if2 .left))
+    (few _ (s .right), rw (s .devices) at (c .before .before .if3 .left), found-devices _ _ _ (start .args .labels .now) (s .right) (found at) (omega (arith, c .before .before .before .if2 .left)))
 
 same-length : tie.Need-same-length
 same-length c = search needs
@@ -88,7 +89,7 @@ returns-4 : tie.Need-returns-4
 returns-4 c =
     let at = c .before .before .before .before .before .before .before .before .before in
     let s = known (at .before .before .before .before .before) in
-    answered _ _ _ _ (s .right) (found at) (c .before .before .before .before .before .before .if2 .left) (rw (s .devices) at (c .before .before .before .before .before .if3 .left)) (rw (s .devices) at (c .before .before .put-labels .ensures))
+    answered _ _ _ _ (s .right) (found at) (omega (arith, c .before .before .before .before .before .before .if2 .left)) (rw (s .devices) at (c .before .before .before .before .before .if3 .left)) (rw (s .devices) at (c .before .before .put-labels .ensures))
 
 pub grouped-spec : {M : Type 1} → statement M
 grouped-spec =
