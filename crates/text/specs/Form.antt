@@ -2,10 +2,11 @@
 -- (first end, second end, signals), then end=plant and nothing more."
 -- Assumes nothing.
 use Prim.Native.Nat.{ℕ, zero, suc, _+_}
+use mathlib.Core.Path.{_≡_}
 use mathlib.Core.Bool.{cond}
 use mathlib.Core.List.{List, [], _∷_, _++_}
 use lib.Dec.{eqb}
-use lib.ListN.{length, drop}
+use lib.ListN.{length, take, drop}
 use Rattle.text.specs.declared.Number.{Number}
 use Rattle.text.specs.declared.Row.{Row}
 use Rattle.text.specs.declared.Passed.{Passed}
@@ -42,6 +43,11 @@ passed m l = record { rows = goodRows m l; used = usedRows m l }
 unfoldable pub column : (Row → ℕ) → ℕ → List ℕ → List ℕ
 column f zero l = []
 column f (suc m) l = f (row l) ∷ column f m (drop (row l .used) l)
+
+-- three lists begin with the numbers of the m rows from here
+abbrev pub RowsAre : ℕ → List ℕ → List ℕ → List ℕ → List ℕ → Type 0
+RowsAre m l a b s =
+    (take m a ≡ column (λ w. w .first) m l) × (take m b ≡ column (λ w. w .second) m l) × (take m s ≡ column (λ w. w .signals) m l)
 
 -- "then end=plant and nothing more": the text line that is not as expected, k being the number of the one that should be end=plant, or 0
 unfoldable pub endFault : List ℕ → ℕ → ℕ

@@ -2,14 +2,12 @@
 // filled last.
 use crate::Form;
 use crate::Reading;
-use crate::lines;
 use crate::reader;
 use cut::check;
 use rules::Refusal;
 ghost use mathlib.Core.Path.{_≡_};
 ghost use Prim.Native.Nat.{_≤_};
-ghost use lib.ListN.{length, take, drop};
-ghost use Rattle.text.specs.Form.{column};
+ghost use lib.ListN.{length};
 ghost use Rattle.rules.specs.Refusals.{orElse};
 ghost use Rattle.rules.specs.Lists.{over};
 ghost use Rattle.text.specs.Reading.{formFault, sizeFault, headFault, noRoom, refusedWith, ReadIs};
@@ -77,34 +75,6 @@ fn head_fault(f: Form) -> Refusal
     earlier(form, size)
 }
 
-// The numbers of the m rows at the place.
-fn keep_rows(
-    text: &[u8],
-    at: usize,
-    m: usize,
-    a: &mut [usize; 1024],
-    b: &mut [usize; 1024],
-    s: &mut [usize; 1024],
-)
-    requires { ⌜ (at ≤ length (now text)) × (m ≤ 1024) ⌝ }
-    requires { ⌜ (length (now a) ≡ 1024) × (length (now b) ≡ 1024) × (length (now s) ≡ 1024) ⌝ }
-    ensures { λ _. ⌜
-        (take m (now (a .exit)) ≡ column (λ w. w .first) m (drop at (now (text .entry))))
-        × (take m (now (b .exit)) ≡ column (λ w. w .second) m (drop at (now (text .entry))))
-        × (take m (now (s .exit)) ≡ column (λ w. w .signals) m (drop at (now (text .entry)))) ⌝ }
-{
-    let mut place = at;
-    let mut i = 0;
-    while i < m {
-        let r = lines::row_at(text, place);
-        a[i] = r.first;
-        b[i] = r.second;
-        s[i] = r.signals;
-        place += r.used;
-        i += 1;
-    }
-}
-
 // Copies a list to the front of a lent one.
 fn fill(list: &mut [usize], from: &[usize])
     requires { ⌜ length (now from) ≤ length (now list) ⌝ }
@@ -166,7 +136,7 @@ pub fn read_plant(
     let mut a = [0usize; 1024];
     let mut b = [0usize; 1024];
     let mut s = [0usize; 1024];
-    keep_rows(text, at, m, &mut a, &mut b, &mut s);
+    reader::rows_of(text, at, m, &mut a, &mut b, &mut s);
     let r = check::check_plant(f.devices, &a[..m], &b[..m], &s[..m]);
     if r.number != 0 {
         return refused(r.number, r.place);

@@ -1,11 +1,11 @@
-// The form of a whole text, at a place.
+// The form of a whole text, and the numbers of its rows, at a place.
 use crate::Form;
 use crate::Passed;
 use crate::lines;
 ghost use mathlib.Core.Path.{_≡_};
 ghost use Prim.Native.Nat.{_≤_, _<_};
 ghost use lib.ListN.{length, drop};
-ghost use Rattle.text.specs.Form.{passed, endFault, rowsFault, wrongLine, form};
+ghost use Rattle.text.specs.Form.{passed, RowsAre, endFault, rowsFault, wrongLine, form};
 
 // The rows at the place, of m that should come, up to the first that is not as expected.
 fn pass_rows(text: &[u8], at: usize, m: usize) -> Passed
@@ -88,5 +88,32 @@ pub(crate) fn form_at(text: &[u8], at: usize) -> Form
         devices: n.value,
         lines: m.value,
         at: start,
+    }
+}
+
+// The numbers of the m rows at the place.
+pub(crate) fn keep_rows(
+    text: &[u8],
+    at: usize,
+    m: usize,
+    a: &mut [usize; 1024],
+    b: &mut [usize; 1024],
+    s: &mut [usize; 1024],
+)
+    requires { ⌜
+        (at ≤ length (now text)) × (m ≤ 1024)
+        × (length (now a) ≡ 1024) × (length (now b) ≡ 1024) × (length (now s) ≡ 1024) ⌝ }
+    ensures { λ _. ⌜
+        RowsAre m (drop at (now (text .entry))) (now (a .exit)) (now (b .exit)) (now (s .exit)) ⌝ }
+{
+    let mut place = at;
+    let mut i = 0;
+    while i < m {
+        let r = lines::row_at(text, place);
+        a[i] = r.first;
+        b[i] = r.second;
+        s[i] = r.signals;
+        place += r.used;
+        i += 1;
     }
 }

@@ -33,10 +33,10 @@ at-within c =
     rw (at-form-of .form-of .ensures) (form-within (start .args .text .now))
 
 -- after the rows are kept
-known : (c : tie.After-keep-rows) →
+known : (c : tie.After-rows-of) →
     let at-form-of = c .before .before .before .before .before .before .before in
     let start = at-form-of .before .before .before .before .before .before in
-    Known (start .args .text .now) (at-form-of .form-of .result) (take (at-form-of .form-of .result .lines) (c .keep-rows .last .1 .1 .1 .0)) (take (at-form-of .form-of .result .lines) (c .keep-rows .last .1 .1 .1 .1 .0)) (take (at-form-of .form-of .result .lines) (c .keep-rows .last .1 .1 .1 .1 .1 .0))
+    Known (start .args .text .now) (at-form-of .form-of .result) (take (at-form-of .form-of .result .lines) (c .rows-of .last .1 .1 .1 .0)) (take (at-form-of .form-of .result .lines) (c .rows-of .last .1 .1 .1 .1 .0)) (take (at-form-of .form-of .result .lines) (c .rows-of .last .1 .1 .1 .1 .1 .0))
 unfolding valuesOf
 known c =
     let at-form-of = c .before .before .before .before .before .before .before in
@@ -44,9 +44,9 @@ known c =
       short = at-form-of .before .if1 .left;
       is-form = at-form-of .form-of .ensures;
       head = head (c .before .before .before .before);
-      firsts = rw (sym (at-form-of .form-of .ensures)) (c .keep-rows .ensures .0);
-      seconds = rw (sym (at-form-of .form-of .ensures)) (c .keep-rows .ensures .1);
-      signals = rw (sym (at-form-of .form-of .ensures)) (c .keep-rows .ensures .2);
+      firsts = rw (sym (at-form-of .form-of .ensures)) (c .rows-of .ensures .0);
+      seconds = rw (sym (at-form-of .form-of .ensures)) (c .rows-of .ensures .1);
+      signals = rw (sym (at-form-of .form-of .ensures)) (c .rows-of .ensures .2);
     }
 
 -- after the test of room
@@ -81,23 +81,23 @@ returns-2 c =
     let start = at-if1 .before .before .before .before .before in
     read-head (start .args .text .now) (start .args .firsts .now) (start .args .seconds .now) (start .args .signals .now) (at-if1 .if1 .left) (at-head-fault .head-fault .ensures ∙ ap headFault (at-form-of .form-of .ensures)) (c .before .if2 .taken) (c .refused2 .ensures)
 
-keep-rows-requires : tie.Need-keep-rows-requires
-keep-rows-requires c κs = ((at-within (c .before .before .before), few (c .before .before .before)), (refl, refl, refl))
+rows-of-requires : tie.Need-rows-of-requires
+rows-of-requires c κs = (at-within (c .before .before .before), few (c .before .before .before), refl, refl, refl)
 
 array-share-prefix-a : tie.Need-array-share-prefix-a
-array-share-prefix-a c = front-fits _ (c .keep-rows .last .1 .1 .1 .0) (known-length (known c) _ (known c .firsts))
+array-share-prefix-a c = front-fits _ (c .rows-of .last .1 .1 .1 .0) (known-length (known c) _ (known c .firsts))
 
 slice-aggregate-check-plant : tie.Need-slice-aggregate-check-plant
 slice-aggregate-check-plant c = sym (known-length (known (c .before)) _ (known (c .before) .firsts))
 
 array-share-prefix-b : tie.Need-array-share-prefix-b
-array-share-prefix-b c = front-fits _ (c .before .keep-rows .last .1 .1 .1 .1 .0) (known-length (known (c .before)) _ (known (c .before) .seconds))
+array-share-prefix-b c = front-fits _ (c .before .rows-of .last .1 .1 .1 .1 .0) (known-length (known (c .before)) _ (known (c .before) .seconds))
 
 slice-aggregate-check-plant-2 : tie.Need-slice-aggregate-check-plant-2
 slice-aggregate-check-plant-2 c = sym (known-length (known (c .before .before)) _ (known (c .before .before) .seconds))
 
 array-share-prefix-s : tie.Need-array-share-prefix-s
-array-share-prefix-s c = front-fits _ (c .before .before .keep-rows .last .1 .1 .1 .1 .1 .0) (known-length (known (c .before .before)) _ (known (c .before .before) .signals))
+array-share-prefix-s c = front-fits _ (c .before .before .rows-of .last .1 .1 .1 .1 .1 .0) (known-length (known (c .before .before)) _ (known (c .before .before) .signals))
 
 slice-aggregate-check-plant-3 : tie.Need-slice-aggregate-check-plant-3
 slice-aggregate-check-plant-3 c = sym (known-length (known (c .before .before .before)) _ (known (c .before .before .before) .signals))
@@ -132,8 +132,8 @@ returns-4 c =
 
 array-share-prefix-a-2 : tie.Need-array-share-prefix-a-2
 array-share-prefix-a-2 c =
-    let at-keep-rows = c .before .before .before .before .before .before .before .before .before in
-    front-fits _ (at-keep-rows .keep-rows .last .1 .1 .1 .0) (known-length (known at-keep-rows) _ (known at-keep-rows .firsts))
+    let at-rows-of = c .before .before .before .before .before .before .before .before .before in
+    front-fits _ (at-rows-of .rows-of .last .1 .1 .1 .0) (known-length (known at-rows-of) _ (known at-rows-of .firsts))
 
 slice-aggregate-fill : tie.Need-slice-aggregate-fill
 slice-aggregate-fill c =
@@ -148,8 +148,8 @@ fill-requires c κs =
 
 array-share-prefix-b-2 : tie.Need-array-share-prefix-b-2
 array-share-prefix-b-2 c =
-    let at-keep-rows = c .before .before .before .before .before .before .before .before .before .before .before .before .before .before in
-    front-fits _ (at-keep-rows .keep-rows .last .1 .1 .1 .1 .0) (known-length (known at-keep-rows) _ (known at-keep-rows .seconds))
+    let at-rows-of = c .before .before .before .before .before .before .before .before .before .before .before .before .before .before in
+    front-fits _ (at-rows-of .rows-of .last .1 .1 .1 .1 .0) (known-length (known at-rows-of) _ (known at-rows-of .seconds))
 
 slice-aggregate-fill-2 : tie.Need-slice-aggregate-fill-2
 slice-aggregate-fill-2 c =
@@ -164,8 +164,8 @@ fill-requires-2 c κs =
 
 array-share-prefix-s-2 : tie.Need-array-share-prefix-s-2
 array-share-prefix-s-2 c =
-    let at-keep-rows = c .before .before .before .before .before .before .before .before .before .before .before .before .before .before .before .before .before .before .before in
-    front-fits _ (at-keep-rows .keep-rows .last .1 .1 .1 .1 .1 .0) (known-length (known at-keep-rows) _ (known at-keep-rows .signals))
+    let at-rows-of = c .before .before .before .before .before .before .before .before .before .before .before .before .before .before .before .before .before .before .before in
+    front-fits _ (at-rows-of .rows-of .last .1 .1 .1 .1 .1 .0) (known-length (known at-rows-of) _ (known at-rows-of .signals))
 
 slice-aggregate-fill-3 : tie.Need-slice-aggregate-fill-3
 slice-aggregate-fill-3 c =
@@ -210,7 +210,7 @@ read-plant-spec =
     head-fault-requires
     refused-requires-2
     returns-2
-    keep-rows-requires
+    rows-of-requires
     array-share-prefix-a
     slice-aggregate-check-plant
     array-share-prefix-b

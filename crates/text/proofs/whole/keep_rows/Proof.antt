@@ -1,12 +1,12 @@
--- `text::read::keep_rows` meets its contract. The loop's invariant: the place is within the text, and each array is `Kept`. The measure is how many
+-- `text::whole::keep_rows` meets its contract. The loop's invariant: the place is within the text, and each array is `Kept`. The measure is how many
 -- rows are left.
 -- Assumes nothing.
 use Prim.Native.Nat.{_-_, _≤_, zero-le}
 use native.Mathlib.Omega.{arith}
 use lib.ListN.{length}
 use Rattle.text.proofs.Lists.{Kept, kept-start, kept-all, kept-more, next-within}
-use Rattle.text.proofs.read.keep_rows.Statement.{statement}
-use Rattle.text.proofs.read.keep_rows.Tie as tie
+use Rattle.text.proofs.whole.keep_rows.Statement.{statement}
+use Rattle.text.proofs.whole.keep_rows.Tie as tie
 
 abbrev Inv-loop : tie.InvT-loop
 Inv-loop text at m a₀ b₀ s₀ place₀ i₀ a b s place i = (i ≤ m) × (place ≤ length text) × Kept (λ w. w .first) text at m a place i × Kept (λ w. w .second) text at m b place i × Kept (λ w. w .signals) text at m s place i
@@ -15,7 +15,7 @@ abbrev μ-loop : tie.MeasureT-loop
 μ-loop text at m a₀ b₀ s₀ place₀ i₀ a b s place i = m - i
 
 loop-holds : tie.Need-loop-holds Inv-loop μ-loop
-loop-holds c = (zero-le, c .before .pre .0 .0, kept-start _ _ _ _ _ (c .before .pre .1 .0), kept-start _ _ _ _ _ (c .before .pre .1 .1), kept-start _ _ _ _ _ (c .before .pre .1 .2))
+loop-holds c = (zero-le, c .before .pre .0, kept-start _ _ _ _ _ (c .before .pre .2), kept-start _ _ _ _ _ (c .before .pre .3), kept-start _ _ _ _ _ (c .before .pre .4))
 
 row-at-requires : tie.Need-row-at-requires Inv-loop μ-loop
 row-at-requires c κs = c .before .loop .inv .1
@@ -55,7 +55,7 @@ loop-again c =
     let at-loop-test = c .before .before in
     let at-loop = at-loop-test .before in
     let start = at-loop .before .before in
-    (omega arith, next-within (start .args .text .now) (at-loop .loop .place) (at-loop .loop .inv .1) (c .before .row-at .ensures), kept-more (at-loop .loop .inv .2) (at-loop-test .loop-test .taken) (start .pre .0 .1) (c .before .row-at .ensures), kept-more (at-loop .loop .inv .3) (at-loop-test .loop-test .taken) (start .pre .0 .1) (c .before .row-at .ensures), kept-more (at-loop .loop .inv .4) (at-loop-test .loop-test .taken) (start .pre .0 .1) (c .before .row-at .ensures))
+    (omega arith, next-within (start .args .text .now) (at-loop .loop .place) (at-loop .loop .inv .1) (c .before .row-at .ensures), kept-more (at-loop .loop .inv .2) (at-loop-test .loop-test .taken) (start .pre .1) (c .before .row-at .ensures), kept-more (at-loop .loop .inv .3) (at-loop-test .loop-test .taken) (start .pre .1) (c .before .row-at .ensures), kept-more (at-loop .loop .inv .4) (at-loop-test .loop-test .taken) (start .pre .1) (c .before .row-at .ensures))
 
 returns : tie.Need-returns Inv-loop μ-loop
 returns c = (kept-all (c .before .loop .inv .2) (c .loop-test .left) (c .before .loop .inv .0), kept-all (c .before .loop .inv .3) (c .loop-test .left) (c .before .loop .inv .0), kept-all (c .before .loop .inv .4) (c .loop-test .left) (c .before .loop .inv .0))
