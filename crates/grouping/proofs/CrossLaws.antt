@@ -21,7 +21,7 @@ use Rattle.rules.specs.Groups.{groupOf, label}
 use Rattle.rules.specs.Rates.{rateOk, Same, Lowest}
 use Rattle.rules.specs.Stretch.{Crossing}
 use Rattle.rules.proofs.SetLaws.{same-bool}
-use Rattle.rules.proofs.Sums.{agree-size, inside-equal, size-holds}
+use Rattle.rules.proofs.Sums.{agree-size, inside-equal, size-holds, size-most}
 use Rattle.rules.proofs.LabelLaws.{label-below, label-same}
 use Rattle.rules.proofs.LevelLaws.{agree-groups}
 use Rattle.rules.proofs.Instance.{family, group-within}
@@ -32,7 +32,6 @@ use Rattle.rules.proofs.RefusalLaws.{accepted-sound}
 use Rattle.cut.specs.declared.rate.Reduced.{Reduced}
 use Rattle.cut.specs.RateCalls.{Reduction}
 use Rattle.grouping.specs.Level.{Labelled}
-use Rattle.grouping.proofs.BestLaws.{size-most}
 use Rattle.grouping.specs.Stretch.{withLabel, sharing, LabelsBelow, Grows, crossP, crossQ, Greatest, LeastOf, CrossingRate, Apart}
 
 -- the devices with the label of u: those whose label is that of u

@@ -1,10 +1,10 @@
 -- Labels from owners in one pass: after the devices below v, the first device with each owner is known, the labels below v are written,
 -- and as many are counted as are their own label. Assumes nothing.
 use mathlib.Core.Path.{_≡_, refl, sym, _∙_, ap}
-use mathlib.Core.Bool.{Bool, true, false, cond}
+use mathlib.Core.Bool.{true}
 use mathlib.Core.List.{List}
 use mathlib.Core.Logic.{_⊎_, inl, inr, ⊎-elim}
-use Prim.Native.Nat.{ℕ, zero, suc, _+_, _≤_, _<_}
+use Prim.Native.Nat.{ℕ, _+_, _≤_, _<_}
 use native.Mathlib.Nat.{eq-or-lt-of-le, add-zero}
 use native.Mathlib.Numerals.{add-one}
 use native.Mathlib.Decide.{ℕ-discrete}
@@ -24,15 +24,6 @@ use Rattle.grouping.specs.Level.{firstWith}
 -- the lowest device of a set is the first that the set holds
 pub lowest-first : (n : ℕ) (S : Devices) (v : ℕ) → v < n → S v ≡ true → ((u : ℕ) → u < v → S u ≡ true → ⊥) → lowest n S ≡ v
 lowest-first n S v h m none = ⊎-elim (λ e. e) (λ l. absurd (none (lowest n S) l (lowest-in n S v h m))) (eq-or-lt-of-le (lowest-le n S v h m))
-
-pub owns-le : (k : ℕ) (f : ℕ → ℕ) → owns k f ≤ k
-unfolding owns
-owns-le zero f = omega arith
-owns-le (suc k) f = go (eqb (f k) k) (owns-le k f)
-  where
-    go : (b : Bool) → owns k f ≤ k → owns k f + cond b 1 0 ≤ suc k
-    go true le = omega arith
-    go false le = omega arith
 
 owns-new : (v : ℕ) (f : ℕ → ℕ) → f v ≡ v → owns (v + 1) f ≡ owns v f + 1
 unfolding owns
