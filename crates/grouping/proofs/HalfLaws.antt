@@ -17,11 +17,11 @@ use Rattle.rules.specs.Rates.{Below}
 use Rattle.rules.specs.Stretch.{Crossing}
 use Rattle.rules.proofs.RangeLaws.{InRange, range-in}
 use Rattle.rules.proofs.LevelLaws.{squeeze, fewer-or-same, same-number, fewer}
-use Rattle.rules.proofs.CrossingLaws.{crossing-agree, crossing-over, crossing-not-above, crossing-parts, crossing-last}
+use Rattle.rules.proofs.CrossingLaws.{crossing-over, crossing-not-above, crossing-parts, crossing-last}
 use Rattle.grouping.specs.declared.level.Level.{Level}
 use Rattle.grouping.specs.Level.{IsLevel, Between}
 use Rattle.grouping.specs.Stretch.{CrossingRate, Span}
-use Rattle.grouping.proofs.CrossLaws.{sharing-group}
+use Rattle.grouping.proofs.CrossLaws.{crossing-groups}
 
 module _ {g : Plant} {ap aq bp bq : ℕ} {finer owner : List ℕ} {fine : ℕ} {coarser : List ℕ} {coarse p q : ℕ}
     (s : Sound g) (span : Span g ap aq bp bq finer owner fine coarser coarse) (x : CrossingRate g finer coarser p q) where
@@ -33,11 +33,7 @@ module _ {g : Plant} {ap aq bp bq : ℕ} {finer owner : List ℕ} {fine : ℕ} {
 
   -- the crossing of the groups themselves
   crosses : Crossing g (groupOf g ap aq) (groupOf g bp bq) p q
-  crosses =
-      crossing-agree s
-      (sharing-group g ap aq finer s (span .apart .some-ap) (span .apart .finer-is))
-      (sharing-group g bp bq coarser s (span .apart .some-bp) (span .apart .coarser-is))
-      (x .crossing)
+  crosses = crossing-groups g ap aq bp bq finer coarser s (span .apart) (x .crossing)
 
   pub half-rate : (1 ≤ p) × (1 ≤ q) × Below bp bq p q × (p * aq ≤ ap * q)
   half-rate = (

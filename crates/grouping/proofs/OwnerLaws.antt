@@ -16,6 +16,7 @@ use borrow.Author.Tests.{eqb-true, eq-eqb, ne-eqb}
 use borrow.Author.Count.{below-more}
 use Rattle.rules.specs.Cut.{Devices}
 use Rattle.rules.specs.Groups.{lowest, table, distinct}
+use Rattle.rules.specs.Order.{lowestWith}
 use Rattle.rules.proofs.LabelLaws.{lowest-in, lowest-le}
 use Rattle.rules.proofs.DistinctLaws.{owns, distinct-owns}
 use Rattle.rules.specs.Lists.{over}
@@ -68,7 +69,7 @@ module _ (n : ℕ) (owner : List ℕ) where
     -- the device v is the first with its owner
     pub firsts-new : getD first o 0 ≡ n → {first′ : List ℕ} {groups′ : ℕ} → first′ ≡ set first o v → groups′ ≡ groups + 1
         → Firsts first′ groups′ (v + 1) × (getD first′ o 0 ≡ firstWith n owner v)
-    unfolding firstWith
+    unfolding firstWith lowestWith
     firsts-new e a b = rw (a, b) (record { wide = rw length-set (now .wide); seen = λ o′ l. known o′ l (ℕ-discrete o′ o); counted = rw (owns-new v f low) (ap (λ (k : ℕ). k + 1) (now .counted)) }, here ∙ sym low)
       where
         none : (u : ℕ) → u < v → at u ≡ o → ⊥
@@ -87,7 +88,7 @@ module _ (n : ℕ) (owner : List ℕ) where
     -- an earlier device has its owner
     pub firsts-old : (getD first o 0 ≡ n → ⊥) → {first′ : List ℕ} {groups′ : ℕ} → first′ ≡ first → groups′ ≡ groups
         → Firsts first′ groups′ (v + 1) × (getD first′ o 0 ≡ firstWith n owner v)
-    unfolding firstWith
+    unfolding firstWith lowestWith
     firsts-old e a b = rw (a, b) (record { wide = now .wide; seen = λ o′ l. known o′ (now .seen o′ l); counted = now .counted ∙ sym (owns-old v f (omega (arith, same .0, same .1))) }, sym (same .1))
       where
         same : (getD first o 0 < v) × (f v ≡ getD first o 0)
@@ -99,7 +100,7 @@ module _ (n : ℕ) (owner : List ℕ) where
 
   -- each device is as the first with its owner says
   pub labels-distinct : distinct (table n (firstWith n owner)) ≡ owns n (firstWith n owner)
-  unfolding firstWith
+  unfolding firstWith lowestWith
   labels-distinct = distinct-owns n f low twice
     where
       low : (i : ℕ) → i < n → f i ≤ i
