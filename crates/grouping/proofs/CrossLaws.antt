@@ -249,5 +249,6 @@ module _ (n : ℕ) (xs ys zs finer coarser : List ℕ) (ap aq bp bq : ℕ) (ok :
           q-least = u′;
           q-most = omega (arith, ok .most-devices);
         });
+        most = omega (arith, lowest-most-p p q (r .p) (r .q) o u same low);
         few = omega arith;
       }

@@ -3,12 +3,12 @@
 --     listed-sole, listed-all          what is filled in, with one level and with several
 --     call-..                          the first fault, test by test, and what the call answers
 -- Assumes nothing.
-use Prim.Native.Nat.{ℕ, suc, _+_, _-_, _*_, _≤_, _<_}
+use Prim.Native.Nat.{ℕ, suc, _+_, _-_, _*_, _≤_, _<_, zero-le}
 use mathlib.Core.Path.{_≡_, refl, sym, ap, subst, _∙_}
 use mathlib.Core.Bool.{Bool, true, false, _||_, false≢true}
 use mathlib.Core.List.{List, [], _∷_}
 use mathlib.Core.Logic.{_⊎_, inl, inr}
-use native.Mathlib.Nat.{le-refl, suc-mul}
+use native.Mathlib.Nat.{le-refl, le-of-suc-le-suc, suc-mul}
 use native.Mathlib.Omega.{arith}
 use lib.Dec.{ltb}
 use lib.ListN.{length, getD, drop, length-drop}
@@ -90,6 +90,7 @@ module _ (n : ℕ) (xs ys zs : List ℕ) (a : Accepted n xs ys zs) where
         → rowOf n labels′ 0 ≡ table n (λ v. getD (finest .labels) v 0) → Listed (plantOf n xs ys zs) 1 labels lowP lowQ labels′ lowP lowQ
     unfolding plantOf
     listed-sole {labels} {labels′} lowP lowQ e kept row = record {
+      low-p-most = λ i h. absurd (omega arith);
       hierarchy = hierarchy-sole g (rowOf n labels′) _ _ (a .some-device) (row ∙ finest-row) (same-ends e);
       labels-past = subst (λ (k : ℕ). PastKept k labels labels′) (sym whole) (past-kept kept);
       low-p-past = kept-all 0 lowP;
@@ -117,6 +118,7 @@ module _ (n : ℕ) (xs ys zs : List ℕ) (a : Accepted n xs ys zs) where
         → Listed (plantOf n xs ys zs) (suc to) labels lowP lowQ labels₂ lowP₂ lowQ₂
     unfolding plantOf
     listed-all {labels} {labels₁} {lowP} {lowQ} {labels₂} {lowP₂} {lowQ₂} {to} other kept x = record {
+      low-p-most = λ i h. x .most i zero-le (le-of-suc-le-suc h);
       hierarchy = hierarchy-of g 100000000 1 1 1000 to (rowOf n labels₂) (λ i. getD lowP₂ i 0) (λ i. getD lowQ₂ i 0)
           (omega arith, le-refl 1) (le-refl 1, omega arith) (omega (arith, x .within, c .counted, some-group g 1 1000 sound (le-refl 1) (a .some-device)))
           (alone n xs ys zs a) above below (x .ladder 100000000 1 1 1000 (ends other));

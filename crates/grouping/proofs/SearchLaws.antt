@@ -9,7 +9,8 @@
 use Prim.Native.Nat.{ℕ, suc, _+_, _*_, _≤_, _<_}
 use mathlib.Core.Path.{_≡_, sym, ap, subst, _∙_}
 use mathlib.Core.List.{List}
-use native.Mathlib.Nat.{mul-le-mul-right, suc-mul, le-refl, le-of-lt}
+use mathlib.Core.Logic.{⊎-elim}
+use native.Mathlib.Nat.{mul-le-mul-right, suc-mul, le-refl, le-of-lt, le-antisymm, le-of-suc-le-suc}
 use native.Mathlib.Omega.{arith}
 use lib.ListN.{getD, set}
 use lib.Seq.{getD-set-same}
@@ -18,6 +19,7 @@ use Rattle.rules.specs.Accepted.{Sound}
 use Rattle.rules.specs.Groups.{table, label, groups}
 use Rattle.rules.specs.Rates.{Below}
 use Rattle.rules.specs.Stretch.{Ladder}
+use Rattle.rules.proofs.OrderLaws.{le-or-below}
 use Rattle.rules.proofs.LabelLaws.{table-agree}
 use Rattle.rules.proofs.LevelLaws.{fewer, some-group}
 use Rattle.rules.proofs.LadderLaws.{ladder-join, ladder-step, ladder-same}
@@ -65,6 +67,7 @@ module _ (g : Plant) where
     low-p-kept = kept-join (le-of-lt (x .onward)) (le-of-lt (y .onward)) (x .low-p-kept) (y .low-p-kept);
     low-q-kept = kept-join (le-of-lt (x .onward)) (le-of-lt (y .onward)) (x .low-q-kept) (y .low-q-kept);
     row = y .row;
+    most = λ i l h. ⊎-elim (λ c. y .most i c h) (λ c. rw (y .low-p-kept .before i c) (x .most i l c)) (le-or-below k i);
     ladder = λ ap aq bp bq s.
         let (mp, mq, some, m-a, b-m, up, down) = split ap aq bp bq s in
         ladder-join g ap aq mp mq bp bq at k to (rowOf n labels₂) (λ i. getD lowP₂ i 0) (λ i. getD lowQ₂ i 0) some m-a b-m
@@ -100,6 +103,7 @@ module _ (g : Plant) where
     low-p-kept = kept-set at p lowP;
     low-q-kept = kept-set at q lowQ;
     row = row;
+    most = λ i l h. subst (λ (j : ℕ). getD (set lowP at p) j 0 ≤ 67107840) (le-antisymm l (le-of-suc-le-suc h)) (rw here-p (x .most));
     ladder = ladder;
   }
     where

@@ -1,6 +1,6 @@
 -- What the public calls answer and what they leave in the lent lists: document 01, "What a call fills", "Levels and joining rates" and "Refusal numbers".
 -- Assumes nothing.
-use Prim.Native.Nat.{ℕ, _-_, _*_}
+use Prim.Native.Nat.{ℕ, suc, _-_, _*_, _≤_, _<_}
 use mathlib.Core.Path.{_≡_}
 use mathlib.Core.Bool.{cond}
 use mathlib.Core.List.{List, [], _∷_}
@@ -61,6 +61,8 @@ pub record PastKept (k : ℕ) (old new : List ℕ) : Type 0 where
 -- "The hierarchy call fills n labels per level, level after level, and the low rates as two lists"; "One low rate is filled for each level but the last."
 pub record Listed (g : Plant) (levels : ℕ) (labels lowP lowQ labels′ lowP′ lowQ′ : List ℕ) : Type 0 where
   pub hierarchy : IsHierarchy g levels (rowOf (g .devices) labels′) (λ i. getD lowP′ i 0) (λ i. getD lowQ′ i 0)
+  -- a low rate's p is at most "All signals together", so that it has at most 9 digits
+  pub low-p-most : (i : ℕ) → suc i < levels → getD lowP′ i 0 ≤ 67107840
   pub labels-past : PastKept (levels * g .devices) labels labels′
   pub low-p-past : PastKept (levels - 1) lowP lowP′
   pub low-q-past : PastKept (levels - 1) lowQ lowQ′

@@ -65,6 +65,7 @@ pub record CrossingRate (g : Plant) (finer coarser : List ℕ) (p q : ℕ) : Typ
   pub crossing : Crossing g (sharing finer) (sharing coarser) p q
   pub lowest : Lowest p q
   pub accepted : rateOk p q ≡ true
+  pub most : p ≤ 67107840
   pub few : q ≤ g .devices - 1
 
 -- two known levels that differ: the finer at the rate ap/aq, the coarser at the lower rate bp/bq
@@ -116,5 +117,6 @@ pub record Searched (n : ℕ) (g : Plant) (finer owner : List ℕ) (fine : ℕ) 
   pub low-p-kept : KeptOutside at to lowP lowP′
   pub low-q-kept : KeptOutside at to lowQ lowQ′
   pub row : rowOf n labels′ to ≡ table n (λ v. getD coarser v 0)
+  pub most : (i : ℕ) → at ≤ i → i < to → getD lowP′ i 0 ≤ 67107840
   pub ladder : (ap aq bp bq : ℕ) → Span g ap aq bp bq finer owner fine coarser coarse
       → Ladder g ap aq bp bq at to (rowOf n labels′) (λ i. getD lowP′ i 0) (λ i. getD lowQ′ i 0)

@@ -18,6 +18,8 @@
 --     PlaceStated the text lines before the one that it names are as expected
 --     PlaceLaws   the place of 15
 --     ListingBound how long a listing can get
+--     ShownLaws   a text has one print
+--     ShownCalls  the functions that print a text, step by step
 --     Examples    worked texts, computed
 pub mod Steps
 pub mod Fields
@@ -38,4 +40,6 @@ pub mod PlaceForms
 pub mod PlaceStated
 pub mod PlaceLaws
 pub mod ListingBound
+pub mod ShownLaws
+pub mod ShownCalls
 pub mod Examples

@@ -1,18 +1,18 @@
 -- How long a listing can get.
 --     groups-most     the group rows of a level take at most 14 bytes for each device
---     level-most      a level takes at most 38 bytes more
---     listing-most    the listing of at most 128 devices takes at most 234,289 bytes
+--     level-most      a level takes at most 45 bytes more
+--     listing-most    the listing of at most 128 devices takes at most 235,185 bytes
 --     refused-most    a refusal takes at most 31 bytes
 -- Assumes nothing.
 use Prim.Native.Nat.{ℕ, zero, suc, _+_, _*_, _-_, _/_, _%_, _≤_, _<_}
 use native.Mathlib.Nat.{add-zero, zero-add, add-suc, suc-add, sub-zero, mul-suc, mul-le-mul}
 use native.Mathlib.Omega.{arith}
 use mathlib.Core.Path.{_≡_, refl, ap, _∙_}
-use mathlib.Core.Bool.{Bool, true, cond}
+use mathlib.Core.Bool.{Bool, cond}
 use mathlib.Core.List.{List, [], _∷_}
 use lib.Dec.{leb, ltb, eqb}
 use lib.ListN.{length, getD, length-append}
-use borrow.Author.Tests.{ltb-true, leb-true, leb-false, le-leb, lt-leb, eqb-true}
+use borrow.Author.Tests.{leb-true, leb-false, le-leb, lt-leb, eqb-true}
 use Rattle.text.specs.Numbers.{decimal, digits}
 use Rattle.text.specs.Lines.{devicesKey, newline, comma, fieldText}
 use Rattle.text.specs.Listing.{
@@ -39,6 +39,19 @@ use Rattle.text.specs.Listing.{
 use Rattle.text.proofs.Fields.{by-cond}
 use Rattle.text.proofs.Wrote.{field-length}
 use Rattle.text.proofs.NumberLaws.{digits-short}
+
+-- any number takes at most 9 digits
+decimal-most : (k v : ℕ) (ds : List ℕ) → length (decimal k v ds) ≤ k + length ds
+unfolding decimal
+decimal-most zero v ds = omega arith
+decimal-most (suc k) v ds =
+    by-cond (λ (l : List ℕ). length l ≤ suc k + length ds) (ltb v 10)
+    (λ e. omega arith)
+    (λ e. omega (arith, decimal-most k (v / 10) ((48 + v % 10) ∷ ds)))
+
+digits-any : (v : ℕ) → length (digits v) ≤ 9
+unfolding digits
+digits-any v = decimal-most 9 v []
 
 -- a field whose number is below 1,000
 field-small : (key stop : List ℕ) (v : ℕ) → v < 1000 → length (fieldText key stop v) ≤ length key + 3 + length stop
@@ -151,50 +164,36 @@ heads-most level h (suc k) =
     let rest : headCount level (suc h) k ≤ k = heads-most level (suc h) k in
     by-cond (λ (m : ℕ). m ≤ suc k) (eqb (getD level h 0) h) (λ e. omega arith) (λ e. omega arith)
 
-low-most : (has : Bool) (p q : ℕ) → (has ≡ true → (p < 100000000) × (q < 1000)) → length (lowText has p q) ≤ 17
+low-most : (has : Bool) (p q : ℕ) → length (lowText has p q) ≤ 24
 unfolding lowText
-low-most has p q h =
-    by-cond (λ (t : List ℕ). length t ≤ 17) has
-    (λ e.
-    simp length-append (omega (
-      arith,
-      field-length lowKey slash p,
-      digits-short 7 p (h e .0) (omega arith),
-      field-small [] newline q (h e .1),
-    )))
+low-most has p q =
+    by-cond (λ (t : List ℕ). length t ≤ 24) has
+    (λ e. simp length-append (omega (arith, field-length lowKey slash p, digits-any p, field-length [] newline q, digits-any q)))
     (λ e. omega arith)
 
-pub level-most : (n i : ℕ) (level : List ℕ) (has : Bool) (p q : ℕ) → n ≤ 128 → i < 1000
-    → (has ≡ true → (p < 100000000) × (q < 1000)) → length (levelText n i level has p q) ≤ 38 + 14 * n
+pub level-most : (n i : ℕ) (level : List ℕ) (has : Bool) (p q : ℕ) → n ≤ 128 → i < 1000 → length (levelText n i level has p q) ≤ 45 + 14 * n
 unfolding levelText
-level-most n i level has p q small l h =
+level-most n i level has p q small l =
     simp length-append (omega (
       arith,
       field-small levelKey newline i l,
-      low-most has p q h,
+      low-most has p q,
       field-small groupsKey newline (headCount level 0 n) (omega (arith, heads-most level 0 n)),
       groups-most level n small,
     ))
 
--- each level but the last of count levels has a low rate p/q with p below 100,000,000 and q below 1,000
-abbrev pub LowRates : ℕ → (ℕ → ℕ) → (ℕ → ℕ) → Type 0
-LowRates count lowP lowQ = (i : ℕ) → suc i < count → (lowP i < 100000000) × (lowQ i < 1000)
-
-module _ (n count : ℕ) (level : ℕ → List ℕ) (lowP lowQ : ℕ → ℕ) (small : n ≤ 128) (most : count ≤ n) (rates : LowRates count lowP lowQ) where
-  levels-most : length (levelsText n count level lowP lowQ 0 count) ≤ (38 + 14 * n) * count
+module _ (n count : ℕ) (level : ℕ → List ℕ) (lowP lowQ : ℕ → ℕ) (small : n ≤ 128) (most : count ≤ n) where
+  levels-most : length (levelsText n count level lowP lowQ 0 count) ≤ (45 + 14 * n) * count
   unfolding levelsText
   levels-most =
       rw sub-zero at
-      (pieces-most (λ (i : ℕ). levelText n i (level i) (ltb (suc i) count) (lowP i) (lowQ i)) (λ (i : ℕ). (38 + 14 * n) * (count - i)) 0 count
+      (pieces-most (λ (i : ℕ). levelText n i (level i) (ltb (suc i) count) (lowP i) (lowQ i)) (λ (i : ℕ). (45 + 14 * n) * (count - i)) 0 count
       (λ i l.
       let one : count - i ≡ suc (count - suc i) = omega arith in
-      rw (one, mul-suc (38 + 14 * n) (count - suc i))
-      (omega (
-        arith,
-        level-most n i (level i) (ltb (suc i) count) (lowP i) (lowQ i) small (omega arith) (λ e. rates i (ltb-true (suc i) count e)),
-      ))))
+      rw (one, mul-suc (45 + 14 * n) (count - suc i))
+      (omega (arith, level-most n i (level i) (ltb (suc i) count) (lowP i) (lowQ i) small (omega arith)))))
 
-  pub listing-length : length (listing n count level lowP lowQ) ≤ 49 + (38 + 14 * n) * count
+  pub listing-length : length (listing n count level lowP lowQ) ≤ 49 + (45 + 14 * n) * count
   unfolding listing
   listing-length =
       simp length-append (omega (
@@ -204,27 +203,14 @@ module _ (n count : ℕ) (level : ℕ → List ℕ) (lowP lowQ : ℕ → ℕ) (s
         levels-most,
       ))
 
-  pub listing-most : length (listing n count level lowP lowQ) ≤ 234289
+  pub listing-most : length (listing n count level lowP lowQ) ≤ 235185
   listing-most =
-      let worst : (38 + 14 * n) * count ≤ 1830 * 128 = mul-le-mul {n₂ = 1830} {m₂ = 128} (omega arith) (omega arith) in
+      let worst : (45 + 14 * n) * count ≤ 1837 * 128 = mul-le-mul {n₂ = 1837} {m₂ = 128} (omega arith) (omega arith) in
       omega (arith, listing-length)
 
   -- so 262,144 bytes hold every listing
   pub listing-fits : length (listing n count level lowP lowQ) ≤ 262144
   listing-fits = omega (arith, listing-most)
-
--- any number takes at most 9 digits
-decimal-most : (k v : ℕ) (ds : List ℕ) → length (decimal k v ds) ≤ k + length ds
-unfolding decimal
-decimal-most zero v ds = omega arith
-decimal-most (suc k) v ds =
-    by-cond (λ (l : List ℕ). length l ≤ suc k + length ds) (ltb v 10)
-    (λ e. omega arith)
-    (λ e. omega (arith, decimal-most k (v / 10) ((48 + v % 10) ∷ ds)))
-
-digits-any : (v : ℕ) → length (digits v) ≤ 9
-unfolding digits
-digits-any v = decimal-most 9 v []
 
 pub refused-most : (number place : ℕ) → length (refusedText number place) ≤ 31
 unfolding refusedText

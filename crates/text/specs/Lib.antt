@@ -5,6 +5,7 @@
 --     Listing     what is printed of a hierarchy, and after a refusal
 --     Reading     what reading a text answers and fills
 --     Writing     what writing a plant answers and fills
+--     Shown       what the hierarchy program prints of a text, whole
 --     Place       the place of 15, said once more without the reader's steps
 pub mod Numbers
 pub mod Lines
@@ -12,4 +13,5 @@ pub mod Form
 pub mod Listing
 pub mod Reading
 pub mod Writing
+pub mod Shown
 pub mod Place

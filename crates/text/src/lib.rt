@@ -1,14 +1,12 @@
-// The text part: reading a plant text into lent lists, and writing one. Document 01, "Plant text and listing".
+// The text part: reading a plant text into lent lists, writing one, and listing the hierarchy of the plant that a text states.
+// Document 01, "Plant text and listing".
 mod lines;
 mod listing;
 pub mod read;
+mod reader;
+pub mod show;
 mod whole;
 pub mod write;
-
-// The place in a text, beside the text itself.
-pub(crate) struct Cursor {
-    pub at: usize,
-}
 
 // What stands at a place, where a number should: whether it is one, its value, and how many bytes it takes.
 pub(crate) struct Number {
@@ -32,7 +30,7 @@ pub(crate) struct Passed {
     pub used: usize,
 }
 
-// The form of a text: the text line that is not as expected, or 0; the stated numbers; where the rows start.
+// The form of a text: the text line that is not as expected, or 0; the stated numbers; how many bytes come before the rows.
 pub(crate) struct Form {
     pub line: usize,
     pub devices: usize,
@@ -48,7 +46,7 @@ pub struct Reading {
     pub lines: usize,
 }
 
-// What writing answers.
+// What writing and listing answer.
 pub struct Written {
     pub number: usize,
     pub place: usize,

@@ -133,7 +133,8 @@ fn put_levels(
     while i < levels {
         let start = i * n;
         let end = start + n;
-        let has = i + 1 < levels;
+        let next = i + 1;
+        let has = next < levels;
         to = put_level(
             bytes,
             to,
@@ -144,7 +145,7 @@ fn put_levels(
             low_p[i],
             low_q[i],
         );
-        i += 1;
+        i = next;
     }
     to
 }

@@ -64,8 +64,8 @@ mul-start c = omega (arith, within c)
 add-end : tie.Need-add-end Inv-loop μ-loop
 add-end c = omega (arith, within c)
 
-add-has : tie.Need-add-has Inv-loop μ-loop
-add-has c = omega arith
+add-next : tie.Need-add-next Inv-loop μ-loop
+add-next c = omega arith
 
 mul-put-level : tie.Need-mul-put-level Inv-loop μ-loop
 mul-put-level c = omega (arith, within (c .before))
@@ -103,9 +103,6 @@ put-level-requires c κs =
       pieces-room (start .pre .1) (at-loop .loop .inv) (at-loop-test .loop-test .taken) (piece-is (start .args .n) (start .args .levels) (start .args .labels .now) (start .args .low-p .now) (start .args .low-q .now) (at-loop .loop .i)),
     )
 
-add-i : tie.Need-add-i Inv-loop μ-loop
-add-i c = omega arith
-
 loop-less : tie.Need-loop-less Inv-loop μ-loop
 loop-less c = omega arith
 
@@ -135,7 +132,7 @@ put-levels-spec =
     loop-holds
     mul-start
     add-end
-    add-has
+    add-next
     mul-put-level
     sub-put-level
     part-put-level-start
@@ -145,7 +142,6 @@ put-levels-spec =
     mul-put-level-3
     shared-slice-read-put-level-2
     put-level-requires
-    add-i
     loop-less
     loop-again
     same-length
