@@ -140,7 +140,7 @@ module _ {n : ℕ} {xs ys zs : List ℕ} {d : ℕ} (accepted : Accepted n xs ys 
       pub sent-small : InRange p q → sent ≤ 79907840000
       sent-small range =
           le-trans (spares-limit spares)
-          (cost-most n xs ys zs p q _ (accepted .one-length) (accepted .one-length′) (accepted .most-lines) (accepted .most-signals) (range .p-most) (range .q-most) (accepted .most-devices))
+          (cost-most accepted range _)
 
       pub scan-marks : {nodes vias froms marks : List ℕ} {count : ℕ} → Scan xs ys fs rs ws d nodes vias froms marks count count (length xs)
           → (v : ℕ) → v < n → getD marks v 0 ≡ cond (communityIn (plantOf n xs ys zs) p q (fenceOf fence d) d v) 1 0

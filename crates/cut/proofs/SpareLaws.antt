@@ -10,24 +10,24 @@ use mathlib.Core.Path.{_≡_, refl, sym, ap, _∙_}
 use mathlib.Core.Logic.{_⊎_, inl, inr}
 use mathlib.Core.Bool.{Bool, true, false, _||_, cond, false≢true}
 use mathlib.Core.List.{List}
-use native.Mathlib.Nat.{le-refl, le-trans, lt-suc-self, mul-zero, mul-one, mul-le-mul}
+use native.Mathlib.Nat.{le-trans, lt-suc-self, mul-zero, mul-one, mul-le-mul}
 use native.Mathlib.Omega.{arith}
 use borrow.Author.Tests.{eqb-true, eq-eqb}
 use lib.Dec.{eqb}
 use lib.ListN.{length, getD, set}
 use lib.Seq.{ext-getD, getD-set-same, getD-set-other}
 use Rattle.rules.specs.Plant.{linesOf, plantOf}
-use Rattle.rules.specs.Accepted.{Sound}
+use Rattle.rules.specs.Accepted.{Accepted, Sound}
 use Rattle.rules.specs.Cut.{Devices, crossing, out, sizeAt, size, cost}
 use Rattle.rules.specs.Sets.{Inside}
 use Rattle.rules.specs.Community.{communityIn}
 use Rattle.rules.specs.CommunityIs.{IsCommunityIn}
 use Rattle.rules.specs.Groups.{table}
 use Rattle.rules.specs.Numbers.{sum}
-use Rattle.rules.proofs.SetLaws.{cond-most}
-use Rattle.rules.proofs.PlantLaws.{crossing-most}
-use Rattle.rules.proofs.Sums.{size-inside}
-use Rattle.rules.proofs.SumLaws.{sum-agree, sum-most, sum-change, sum-zero, zero-sum, sum-scale, size-one, out-sum, size-sum}
+use Rattle.rules.proofs.PlantLaws.{out-most}
+use Rattle.rules.proofs.RangeLaws.{InRange}
+use Rattle.rules.proofs.Sums.{size-inside, size-most}
+use Rattle.rules.proofs.SumLaws.{sum-agree, sum-change, sum-zero, zero-sum, sum-scale, size-one, out-sum, size-sum}
 use Rattle.rules.proofs.Communities.{communityIn-only}
 use Rattle.rules.proofs.LabelLaws.{length-table, getD-table}
 use Rattle.cut.specs.Calls.{fenceOf}
@@ -133,16 +133,14 @@ pub spare-most : {n : ℕ} {xs ys zs : List ℕ} {p q : ℕ} {fence : List ℕ} 
     → Spares n xs ys zs p q fence d fs rs ws sent → q ≤ 1000 → l < length xs → getD zs l 0 ≤ 65535 → getD fs l 0 + getD rs l 0 ≤ 131070000
 spare-most l spares h b z = omega (arith, spares .whole l b, mul-le-mul h z)
 
-pub cost-most : (n : ℕ) (xs ys zs : List ℕ) (p q : ℕ) (T : Devices) → length xs ≡ length ys → length ys ≡ length zs
-    → length xs ≤ 1024 → ((l : ℕ) → l < length xs → getD zs l 0 ≤ 65535) → p ≤ 100000000 → q ≤ 1000 → n ≤ 128
-    → cost (plantOf n xs ys zs) p q T ≤ 79907840000
+pub cost-most : {n : ℕ} {xs ys zs : List ℕ} {p q : ℕ} → Accepted n xs ys zs → InRange p q → (T : Devices) → cost (plantOf n xs ys zs) p q T ≤ 79907840000
 unfolding cost plantOf
-cost-most n xs ys zs p q T e e′ few most a b c =
-    let lines : out (linesOf xs ys zs) T ≤ 1024 * 65535 =
-    rw (out-sum xs ys zs T e e′) (le-trans (sum-most (length xs) _ 65535 (λ l h. le-trans (crossing-most _ _ _) (most l h))) (mul-le-mul few (le-refl 65535))) in
-    let devices : size (plantOf n xs ys zs) T ≤ 128 =
-    rw (size-sum n xs ys zs T) (omega (arith, sum-most n (λ v. cond (T v) (sizeAt (plantOf n xs ys zs) v) 0) 1 (λ v h. rw size-one (cond-most (T v) 1)))) in
-    omega (arith, mul-le-mul b lines, mul-le-mul a devices)
+cost-most {n} {xs} {ys} {zs} a range T =
+    omega (
+      arith,
+      mul-le-mul (range .q-most) (out-most n xs ys zs a T),
+      mul-le-mul (range .p-most) (le-trans (size-most (plantOf n xs ys zs) T) (a .most-devices)),
+    )
 
 -- marks that say which devices are in C
 line-marks : (z : ℕ) (a b : Bool) → crossing z a b ≡ cond (eqb (cond a 1 0) (cond b 1 0)) 0 z

@@ -32,6 +32,17 @@ fn clear_owners(n: usize, owner: &mut [usize])
     }
 }
 
+// The owner of one device after device k has become the owner of the marked ones, whoever owned it before.
+fn owner_after(mark: u8, k: usize, before: usize) -> usize
+    ensures { λ r. ⌜ r ≡ cond (eqb mark 1) k before ⌝ }
+{
+    let inside = mark == 1;
+    if inside {
+        return k;
+    }
+    before
+}
+
 // Device k becomes the owner of the marked devices among the first n.
 fn paint_owners(n: usize, k: usize, mark: &[u8; DEVICES], owner: &mut [usize])
     requires { ⌜ (n ≤ 128) × (n ≤ length (now owner)) ⌝ }
@@ -39,9 +50,7 @@ fn paint_owners(n: usize, k: usize, mark: &[u8; DEVICES], owner: &mut [usize])
 {
     let mut v = 0;
     while v < n {
-        if mark[v] == 1 {
-            owner[v] = k;
-        }
+        owner[v] = owner_after(mark[v], k, owner[v]);
         v += 1;
     }
 }

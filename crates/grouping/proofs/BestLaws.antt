@@ -9,22 +9,14 @@ use native.Mathlib.Decide.{ℕ-discrete}
 use native.Mathlib.Omega.{arith}
 use lib.ListN.{length, getD, set, replicate, length-set, length-replicate, getD-replicate}
 use lib.Seq.{getD-set-same, getD-set-other}
-use borrow.Author.Tests.{lt-ltb}
 use borrow.Author.Count.{below-more}
 use Rattle.rules.specs.Plant.{Plant, plantOf}
-use Rattle.rules.specs.Cut.{Devices, size, out}
-use Rattle.rules.specs.Community.{everyone}
+use Rattle.rules.specs.Cut.{size, out}
 use Rattle.rules.specs.Accepted.{Accepted}
-use Rattle.rules.proofs.Sums.{size-inside}
-use Rattle.rules.proofs.Bounds.{everyone-size}
-use Rattle.rules.proofs.EndLaws.{out-most}
+use Rattle.rules.proofs.Sums.{size-most}
+use Rattle.rules.proofs.PlantLaws.{out-most}
 use Rattle.rules.proofs.OrderLaws.{at-most-trans}
 use Rattle.grouping.specs.Stretch.{sharing, LabelsBelow, SizesOf, OutsOf, Grows, crossP, crossQ, Greatest, LeastOf}
-
--- no set has more devices than the plant
-pub size-most : (g : Plant) (S : Devices) → size g S ≤ g .devices
-unfolding everyone
-size-most g S = omega (arith, size-inside g S (everyone g) (λ i h e. lt-ltb i (g .devices) h), everyone-size g)
 
 -- an entry of a table is that of the group of device v
 pub table-size : (g : Plant) (labels sizes : List ℕ) (v : ℕ) → SizesOf g labels sizes → getD labels v 0 < g .devices → getD sizes (getD labels v 0) 0 ≡ size g (sharing labels v)

@@ -1,6 +1,6 @@
 -- The crossing rate between two known levels, from the greatest rate of each coarser label and the least of these.
 --     sharing-group, labels-below    by the labels of a grouping: the devices with one label are a group, and labels are devices
---     some-grows                     of two levels that differ: the group of some device grows
+--     some-grows, crossing-groups    of two levels that differ: the group of some device grows; a crossing is one of their groups
 --     crossing-found                 the least of the greatest rates is a crossing
 --     crossing-rate                  reduced, it is the crossing rate in lowest terms
 -- Assumes nothing.
@@ -21,7 +21,7 @@ use Rattle.rules.specs.Groups.{groupOf, label}
 use Rattle.rules.specs.Rates.{rateOk, Same, Lowest}
 use Rattle.rules.specs.Stretch.{Crossing}
 use Rattle.rules.proofs.SetLaws.{same-bool}
-use Rattle.rules.proofs.Sums.{agree-size, inside-equal, size-holds}
+use Rattle.rules.proofs.Sums.{agree-size, inside-equal, size-holds, size-most}
 use Rattle.rules.proofs.LabelLaws.{label-below, label-same}
 use Rattle.rules.proofs.LevelLaws.{agree-groups}
 use Rattle.rules.proofs.Instance.{family, group-within}
@@ -32,7 +32,6 @@ use Rattle.rules.proofs.RefusalLaws.{accepted-sound}
 use Rattle.cut.specs.declared.rate.Reduced.{Reduced}
 use Rattle.cut.specs.RateCalls.{Reduction}
 use Rattle.grouping.specs.Level.{Labelled}
-use Rattle.grouping.proofs.BestLaws.{size-most}
 use Rattle.grouping.specs.Stretch.{withLabel, sharing, LabelsBelow, Grows, crossP, crossQ, Greatest, LeastOf, CrossingRate, Apart}
 
 -- the devices with the label of u: those whose label is that of u
@@ -85,10 +84,14 @@ module _ (g : Plant) (ap aq bp bq : ℕ) (finer coarser : List ℕ) (s : Sound g
         agree-size g (sharing coarser u) (groupOf g bp bq u) (coarse u h),
       ))))
 
-  -- a crossing of the two is positive
+  -- a crossing of the two is one of their groups
+  pub crossing-groups : {p q : ℕ} → Crossing g (sharing finer) (sharing coarser) p q → Crossing g (groupOf g ap aq) (groupOf g bp bq) p q
+  crossing-groups = crossing-agree s fine coarse
+
+  -- and positive
   found-positive : (p q : ℕ) → 1 ≤ q → Crossing g (sharing finer) (sharing coarser) p q → 1 ≤ p
   found-positive p q u x =
-      crossing-positive g ap aq bp bq s (a .some-ap) (a .some-bp) (a .some-bq) (omega (arith, a .lower)) p q u (crossing-agree s fine coarse x)
+      crossing-positive g ap aq bp bq s (a .some-ap) (a .some-bp) (a .some-bq) (omega (arith, a .lower)) p q u (crossing-groups x)
 
 greatest-at : {g : Plant} {finer coarser : List ℕ} {h k p q p′ q′ : ℕ} → p ≡ p′ → q ≡ q′ → Greatest g finer coarser h k p′ q′ → Greatest g finer coarser h k p q
 greatest-at e f top = rw (e, f) top

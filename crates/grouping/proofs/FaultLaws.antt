@@ -12,7 +12,7 @@ use Rattle.rules.specs.declared.Refusal.{Refusal}
 use Rattle.rules.specs.Rates.{rateOk}
 use Rattle.rules.specs.Refusals.{done, cause, orElse, firstOf, rateFault, roomFault, afterPlant, about, nothing, plantSays, plantFault}
 use Rattle.rules.specs.Accepted.{Accepted}
-use Rattle.rules.proofs.RefusalLaws.{done-next, call-is, call-plant, plant-clean, done-accepted, accepted-done}
+use Rattle.rules.proofs.RefusalLaws.{done-next, call-is, call-plant, plant-clean, plant-accepted, accepted-done}
 use Rattle.cut.specs.Calls.{ownersFault}
 use Rattle.grouping.specs.Calls.{groupingFault}
 
@@ -72,7 +72,7 @@ module _ (n : ℕ) (xs ys zs : List ℕ) (p q : ℕ) where
         where
           same : fault ≡ plant
           same = fault-is ∙ call-plant n xs ys zs _ h
-      go (yes h) true e = inl (cleared (done-accepted n xs ys zs (plant-clean n xs ys zs .whole h)) e)
+      go (yes h) true e = inl (cleared (plant-accepted n xs ys zs _ refl h) e)
       go (yes h) false e = inr (grouping-is room ∙ call-9 (roomFault n room) ok e ∙ sym same, λ z. absurd (omega (arith, ap (λ (r : Refusal). r .number) (sym same) ∙ z)))
         where
           ok : plant ≡ done

@@ -12,16 +12,16 @@ use native.Mathlib.Nat.{le-of-lt, eq-or-lt-of-le}
 use native.Mathlib.Omega.{arith}
 use Rattle.rules.specs.Plant.{Plant}
 use Rattle.rules.specs.Accepted.{Sound}
-use Rattle.rules.specs.Groups.{groupOf, groups, distinct}
+use Rattle.rules.specs.Groups.{groupOf, groups}
 use Rattle.rules.specs.Rates.{Below}
 use Rattle.rules.specs.Stretch.{Crossing}
 use Rattle.rules.proofs.RangeLaws.{InRange, range-in}
-use Rattle.rules.proofs.LevelLaws.{squeeze, fewer-or-same, same-number}
-use Rattle.rules.proofs.CrossingLaws.{crossing-agree, crossing-over, crossing-not-above, crossing-parts, crossing-last}
+use Rattle.rules.proofs.LevelLaws.{squeeze, fewer-or-same, same-number, fewer}
+use Rattle.rules.proofs.CrossingLaws.{crossing-over, crossing-not-above, crossing-parts, crossing-last}
 use Rattle.grouping.specs.declared.level.Level.{Level}
 use Rattle.grouping.specs.Level.{IsLevel, Between}
 use Rattle.grouping.specs.Stretch.{CrossingRate, Span}
-use Rattle.grouping.proofs.CrossLaws.{sharing-group}
+use Rattle.grouping.proofs.CrossLaws.{crossing-groups}
 
 module _ {g : Plant} {ap aq bp bq : ℕ} {finer owner : List ℕ} {fine : ℕ} {coarser : List ℕ} {coarse p q : ℕ}
     (s : Sound g) (span : Span g ap aq bp bq finer owner fine coarser coarse) (x : CrossingRate g finer coarser p q) where
@@ -33,11 +33,7 @@ module _ {g : Plant} {ap aq bp bq : ℕ} {finer owner : List ℕ} {fine : ℕ} {
 
   -- the crossing of the groups themselves
   crosses : Crossing g (groupOf g ap aq) (groupOf g bp bq) p q
-  crosses =
-      crossing-agree s
-      (sharing-group g ap aq finer s (span .apart .some-ap) (span .apart .finer-is))
-      (sharing-group g bp bq coarser s (span .apart .some-bp) (span .apart .coarser-is))
-      (x .crossing)
+  crosses = crossing-groups g ap aq bp bq finer coarser s (span .apart) (x .crossing)
 
   pub half-rate : (1 ≤ p) × (1 ≤ q) × Below bp bq p q × (p * aq ≤ ap * q)
   half-rate = (
@@ -102,16 +98,18 @@ module _ {g : Plant} {ap aq bp bq : ℕ} {finer owner : List ℕ} {fine : ℕ} {
     }
 
     pub half-more : coarse < middle .groups
-    half-more = go (eq-or-lt-of-le (fewer-or-same g p q bp bq s (range .p-least) (span .apart .some-bp) (span .apart .some-bq) (le-of-lt (half-rate .2))))
-      where
-        go : (distinct (groups g bp bq) ≡ distinct (groups g p q)) ⊎ (distinct (groups g bp bq) < distinct (groups g p q)) → coarse < middle .groups
-        go (inl e) = absurd (parts (sym (same-number g p q bp bq s (range .p-least) (span .apart .some-bp) (span .apart .some-bq) (le-of-lt (half-rate .2)) e)))
-        go (inr h) = omega (arith, span .coarser-count, level .counted)
+    half-more =
+        omega (
+          arith,
+          span .coarser-count,
+          level .counted,
+          fewer g p q bp bq s (range .p-least) (span .apart .some-bp) (span .apart .some-bq) (le-of-lt (half-rate .2)) parts,
+        )
 
     -- the grouping at p/q is not the finer one either
     module _ (other : middle .groups ≡ fine → ⊥) where
-      fewer : middle .groups < fine
-      fewer =
+      less : middle .groups < fine
+      less =
           omega (
             arith,
             other,
@@ -121,7 +119,7 @@ module _ {g : Plant} {ap aq bp bq : ℕ} {finer owner : List ℕ} {fine : ℕ} {
           )
 
       pub half-fewer : (coarse < middle .groups) × (middle .groups < fine)
-      half-fewer = (half-more, fewer)
+      half-fewer = (half-more, less)
 
       -- one fraction would have one number of groups
       under : Below p q ap aq
@@ -132,7 +130,7 @@ module _ {g : Plant} {ap aq bp bq : ℕ} {finer owner : List ℕ} {fine : ℕ} {
               absurd
               (omega (
                 arith,
-                fewer,
+                less,
                 span .finer-count,
                 level .counted,
                 fewer-or-same g p q ap aq s (range .p-least) (span .apart .some-ap) (span .apart .some-aq) (omega arith),

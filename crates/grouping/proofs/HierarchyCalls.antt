@@ -24,13 +24,14 @@ use Rattle.rules.proofs.RefusalLaws.{done-next, call-is, call-plant, call-rest,
 use Rattle.rules.proofs.OrderLaws.{le-or-below}
 use Rattle.rules.proofs.EndLaws.{top-accepted, bottom-accepted}
 use Rattle.rules.proofs.LevelLaws.{squeeze, same-number, some-group, most-groups}
-use Rattle.rules.proofs.LabelLaws.{table-agree}
 use Rattle.rules.proofs.LadderLaws.{hierarchy-of, hierarchy-sole}
 use Rattle.grouping.specs.declared.level.Level.{Level}
 use Rattle.grouping.specs.Calls.{rowOf, hierarchyFault, PastKept, Listed, HierarchyIs}
 use Rattle.grouping.specs.Level.{IsLevel}
 use Rattle.grouping.specs.Stretch.{SomeSpan, Span, Ready, KeptOutside, Searched}
-use Rattle.grouping.proofs.SearchLaws.{kept-join}
+use Rattle.grouping.proofs.RowLaws.{kept-join}
+use Rattle.grouping.proofs.SearchLaws.{labels-groups}
+use Rattle.grouping.proofs.EndCalls.{alone, ends-span}
 
 -- entries from k on that are the old ones
 past-kept : {f k : ℕ} {old new : List ℕ} → KeptOutside f k old new → PastKept k old new
@@ -53,11 +54,8 @@ module _ (n : ℕ) (xs ys zs : List ℕ) (a : Accepted n xs ys zs) where
   sound = accepted-sound n xs ys zs a
 
   -- from 100,000,000/1 on every device is alone, and down from 1/1000 nothing changes
-  alone : groups g 100000000 1 ≡ table n (λ v. v)
-  alone = top-accepted n xs ys zs 100000000 1 a (le-refl 1) (omega arith)
-
   above : (p q : ℕ) → 1 ≤ p → 1 ≤ q → 100000000 * q ≤ p * 1 → groups g p q ≡ groups g 100000000 1
-  above p q o u h = top-accepted n xs ys zs p q a u (omega arith) ∙ sym alone
+  above p q o u h = top-accepted n xs ys zs p q a u (omega arith) ∙ sym (alone n xs ys zs a)
 
   below : (p q : ℕ) → 1 ≤ p → 1 ≤ q → p * 1000 ≤ 1 * q → groups g p q ≡ groups g 1 1000
   unfolding plantOf
@@ -66,32 +64,18 @@ module _ (n : ℕ) (xs ys zs : List ℕ) (a : Accepted n xs ys zs) where
   module _ (finest coarsest : Level) (f : IsLevel g 100000000 1 finest) (c : IsLevel g 1 1000 coarsest) where
     -- the row of the finest level
     pub finest-row : table n (λ v. getD (finest .labels) v 0) ≡ table n (λ v. v)
-    unfolding plantOf groups
-    finest-row = table-agree n (λ v. getD (finest .labels) v 0) _ (f .labelled) ∙ alone
+    unfolding plantOf
+    finest-row = labels-groups g 100000000 1 (finest .labels) (f .labelled) ∙ alone n xs ys zs a
 
-    ends-span : (finest .groups ≡ coarsest .groups → ⊥) → Span g 100000000 1 1 1000 (finest .labels) (finest .owner) (finest .groups) (coarsest .labels) (coarsest .groups)
-    ends-span other = record {
-      apart = record {
-        some-ap = omega arith;
-        some-aq = le-refl 1;
-        some-bp = le-refl 1;
-        some-bq = omega arith;
-        lower = omega arith;
-        finer-is = f .labelled;
-        coarser-is = c .labelled;
-        differ = λ e. other (f .counted ∙ ap distinct e ∙ sym (c .counted));
-      };
-      owned = f .owned;
-      finer-count = f .counted;
-      coarser-count = c .counted;
-    }
+    ends : (finest .groups ≡ coarsest .groups → ⊥) → Span g 100000000 1 1 1000 (finest .labels) (finest .owner) (finest .groups) (coarsest .labels) (coarsest .groups)
+    ends other = ends-span f c (λ e. other (f .counted ∙ ap distinct e ∙ sym (c .counted)))
 
     pub two-ends : (finest .groups ≡ coarsest .groups → ⊥) → SomeSpan (plantOf n xs ys zs) (finest .labels) (finest .owner) (finest .groups) (coarsest .labels) (coarsest .groups)
-    two-ends other = (100000000, 1, 1, 1000, ends-span other)
+    two-ends other = (100000000, 1, 1, 1000, ends other)
 
     -- at every positive rate every device is alone
     same-ends : finest .groups ≡ coarsest .groups → (p q : ℕ) → 1 ≤ p → 1 ≤ q → groups g p q ≡ table n (λ v. v)
-    same-ends e p q o u = go (le-or-below (p * 1) (100000000 * q)) (le-or-below (1 * q) (p * 1000)) ∙ alone
+    same-ends e p q o u = go (le-or-below (p * 1) (100000000 * q)) (le-or-below (1 * q) (p * 1000)) ∙ alone n xs ys zs a
       where
         one : groups g 1 1000 ≡ groups g 100000000 1
         one = same-number g 100000000 1 1 1000 sound (omega arith) (le-refl 1) (omega arith) (omega arith) (sym (c .counted) ∙ sym e ∙ f .counted)
@@ -137,7 +121,7 @@ module _ (n : ℕ) (xs ys zs : List ℕ) (a : Accepted n xs ys zs) where
       low-p-most = λ i h. x .most i zero-le (le-of-suc-le-suc h);
       hierarchy = hierarchy-of g 100000000 1 1 1000 to (rowOf n labels₂) (λ i. getD lowP₂ i 0) (λ i. getD lowQ₂ i 0)
           (omega arith, le-refl 1) (le-refl 1, omega arith) (omega (arith, x .within, c .counted, some-group g 1 1000 sound (le-refl 1) (a .some-device)))
-          alone above below (x .ladder 100000000 1 1 1000 (ends-span other));
+          (alone n xs ys zs a) above below (x .ladder 100000000 1 1 1000 (ends other));
       labels-past = past-kept (kept-join {f = 0 * n} (omega arith) (omega (arith, suc-mul to n)) kept (x .labels-kept));
       low-p-past = rw last (past-kept (x .low-p-kept));
       low-q-past = rw last (past-kept (x .low-q-kept));

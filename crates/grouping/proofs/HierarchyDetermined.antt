@@ -20,7 +20,7 @@ use Rattle.rules.specs.Groups.{groups}
 use Rattle.rules.specs.Refusals.{orElse, firstOf, afterPlant, about, nothing, plantSays, plantFault}
 use Rattle.rules.specs.Hierarchy.{IsHierarchy, JoinsAt, NeverJoin}
 use Rattle.rules.specs.Connected.{Connected}
-use Rattle.rules.proofs.RefusalLaws.{call-is, call-plant, plant-clean, done-accepted, accepted-sound}
+use Rattle.rules.proofs.RefusalLaws.{call-is, call-plant, plant-accepted, accepted-sound}
 use Rattle.rules.proofs.EndLaws.{accepted-carries}
 use Rattle.rules.proofs.HierarchyLaws.{SameHierarchy, grouping-listed, each-occurs, all-differ, last-connected, hierarchy-determined}
 use Rattle.rules.proofs.JoinLaws.{joins-determined, joins-or-never}
@@ -56,7 +56,7 @@ call-accepted : (n : ℕ) (xs ys zs : List ℕ) (rest : Refusal) → orElse (pla
 call-accepted n xs ys zs rest z = go (ℕ-discrete (plantFault n xs ys zs .number) 0)
   where
     go : Dec (plantFault n xs ys zs .number ≡ 0) → Accepted n xs ys zs
-    go (yes h) = done-accepted n xs ys zs (plant-clean n xs ys zs .whole h)
+    go (yes h) = plant-accepted n xs ys zs _ refl h
     go (no h) = absurd (h (ap (λ (r : Refusal). r .number) (sym (call-plant n xs ys zs rest h)) ∙ z))
 
 -- past the filled entries two lists are as they came

@@ -7,7 +7,6 @@ use mathlib.Core.Path.{_≡_, refl, sym, _∙_, ap}
 use mathlib.Core.List.{List, [], _∷_}
 use mathlib.Core.Logic.{_⊎_, inl, inr}
 use Prim.Native.Nat.{ℕ, _≤_, _<_}
-use native.Mathlib.Nat.{le-refl}
 use native.Mathlib.Decide.{ℕ-discrete}
 use native.Mathlib.Omega.{arith}
 use lib.ListN.{getD}
@@ -19,16 +18,16 @@ use Rattle.rules.specs.Groups.{label}
 use Rattle.rules.specs.Refusals.{done, cause, orElse, firstOf, deviceFault, selfFault, afterPlant, about, nothing, plantSays, plantFault}
 use Rattle.rules.specs.Hierarchy.{JoinsAt}
 use Rattle.rules.proofs.OrderLaws.{le-or-below}
-use Rattle.rules.proofs.RefusalLaws.{done-next, call-is, call-plant, call-rest, plant-clean, done-accepted, accepted-sound}
-use Rattle.rules.proofs.LabelLaws.{getD-table, groups-at}
+use Rattle.rules.proofs.RefusalLaws.{done-next, call-is, call-plant, call-rest, plant-accepted, accepted-sound}
 use Rattle.rules.proofs.LevelLaws.{groups-label}
-use Rattle.rules.proofs.EndLaws.{top-accepted}
 use Rattle.rules.proofs.JoinLaws.{joins-of, never-of}
 use Rattle.grouping.specs.declared.level.Level.{Level}
 use Rattle.grouping.specs.Calls.{pairFault, JoiningIs}
 use Rattle.grouping.specs.Level.{IsLevel, Between}
 use Rattle.grouping.specs.Stretch.{CrossingRate, Apart, Span, SomeLevels}
-use Rattle.grouping.proofs.HalfLaws.{half-rate, half-between, half-last, half-finer, half-coarser, half-fewer}
+use Rattle.grouping.proofs.HalfLaws.{half-rate, half-last}
+use Rattle.grouping.proofs.SearchLaws.{some-apart, some-between, some-finer, some-coarser, some-fewer}
+use Rattle.grouping.proofs.EndCalls.{alone-label, ends-span}
 
 -- plant and devices are accepted
 pub record Pair (n : ℕ) (xs ys zs : List ℕ) (i j : ℕ) : Type 0 where
@@ -85,7 +84,7 @@ module _ (n : ℕ) (xs ys zs : List ℕ) (i j : ℕ) where
 
       selves : plant .number ≡ 0 → i < n → j < n → Dec (i ≡ j) → Pair n xs ys zs i j
       selves ok hi hj (yes e) = absurd (omega (arith, numbered (pair-self refl ok hi hj e)))
-      selves ok hi hj (no h) = record { accepted = done-accepted n xs ys zs (plant-clean n xs ys zs .whole ok); first = hi; second = hj; two = h }
+      selves ok hi hj (no h) = record { accepted = plant-accepted n xs ys zs _ refl ok; first = hi; second = hj; two = h }
 
       seconds : plant .number ≡ 0 → i < n → (n ≤ j) ⊎ (j < n) → Pair n xs ys zs i j
       seconds ok hi (inl h) = absurd (omega (arith, numbered (pair-second refl ok hi h)))
@@ -108,16 +107,12 @@ pub record Parted (g : Plant) (i j : ℕ) (finer coarser : Level) : Type 0 where
 module _ {g : Plant} {i j : ℕ} {finer coarser : Level} (known : Parted g i j finer coarser) where
   -- what the search for the crossing rate asks
   pub turn-apart : (ap : ℕ) × (aq : ℕ) × (bp : ℕ) × (bq : ℕ) × Apart g ap aq bp bq (finer .labels) (coarser .labels)
-  turn-apart =
-      let (ap, aq, bp, bq, span) = known .levels .0 in
-      (ap, aq, bp, bq, span .apart)
+  turn-apart = some-apart g (known .levels .0)
 
   module _ {p q : ℕ} (s : Sound g) (x : CrossingRate g (finer .labels) (coarser .labels) p q) where
     -- and that for the level there
     pub turn-between : Between g p q (finer .owner) (coarser .labels)
-    turn-between =
-        let (ap, aq, bp, bq, span) = known .levels .0 in
-        half-between s span x
+    turn-between = some-between g s (known .levels .0) x
 
     module _ {middle : Level} (level : IsLevel g p q middle) where
       -- as many groups as the finer level: the devices join here
@@ -134,20 +129,14 @@ module _ {g : Plant} {i j : ℕ} {finer coarser : Level} (known : Parted g i j f
 
       module _ (other : middle .groups ≡ finer .groups → ⊥) where
         pub turn-fewer : (coarser .groups < middle .groups) × (middle .groups < finer .groups)
-        turn-fewer =
-            let (ap, aq, bp, bq, span) = known .levels .0 in
-            half-fewer s span x level other
+        turn-fewer = some-fewer g s x level other (known .levels .0)
 
         -- otherwise they come together in the upper half or in the lower one
         pub turn-upper : getD (middle .labels) i 0 ≡ getD (middle .labels) j 0 → Parted g i j finer middle
-        turn-upper e =
-            let (ap, aq, bp, bq, span) = known .levels .0 in
-            record { levels = ((ap, aq, p, q, half-finer s span x level other), level .wide); apart = known .apart; together = e }
+        turn-upper e = record { levels = (some-finer g s x level other (known .levels .0), level .wide); apart = known .apart; together = e }
 
         pub turn-lower : (getD (middle .labels) i 0 ≡ getD (middle .labels) j 0 → ⊥) → Parted g i j middle coarser
-        turn-lower h =
-            let (ap, aq, bp, bq, span) = known .levels .0 in
-            record { levels = ((p, q, bp, bq, half-coarser s span x level), known .levels .1); apart = h; together = known .together }
+        turn-lower h = record { levels = (some-coarser g s x level other (known .levels .0), known .levels .1); apart = h; together = known .together }
 
 module _ (n : ℕ) (xs ys zs : List ℕ) (i j : ℕ) where
   abbrev g : Plant
@@ -184,13 +173,8 @@ module _ (n : ℕ) (xs ys zs : List ℕ) (i j : ℕ) where
           );
         }
 
-        -- at the largest rate every device is its own label
         own : (v : ℕ) → v < n → label g 100000000 1 v ≡ v
-        unfolding plantOf
-        own v h =
-            sym (groups-at g 100000000 1 v h)
-            ∙ ap (λ (l : List ℕ). getD l v 0) (top-accepted n xs ys zs 100000000 1 (join-pair .accepted) (le-refl 1) (le-refl 100000000))
-            ∙ getD-table n (λ k. k) v h
+        own = alone-label n xs ys zs (join-pair .accepted)
 
         parted : label g 100000000 1 i ≡ label g 100000000 1 j → ⊥
         parted e = join-pair .two (sym (own i (join-pair .first)) ∙ e ∙ own j (join-pair .second))
@@ -207,20 +191,8 @@ module _ (n : ℕ) (xs ys zs : List ℕ) (i j : ℕ) where
             joined = sym (bottom .labelled i (join-pair .first)) ∙ e ∙ bottom .labelled j (join-pair .second)
 
             span : Span g 100000000 1 1 1000 (finest .labels) (finest .owner) (finest .groups) (coarsest .labels) (coarsest .groups)
-            span = record {
-              apart = record {
-                some-ap = omega arith;
-                some-aq = le-refl 1;
-                some-bp = le-refl 1;
-                some-bq = omega arith;
-                lower = omega arith;
-                finer-is = top .labelled;
-                coarser-is = bottom .labelled;
-                differ = λ c.
-                    parted
-                    (groups-label g 100000000 1 1 1000 c i (join-pair .first) ∙ joined ∙ sym (groups-label g 100000000 1 1 1000 c j (join-pair .second)));
-              };
-              owned = top .owned;
-              finer-count = top .counted;
-              coarser-count = bottom .counted;
-            }
+            span =
+                ends-span top bottom
+                (λ c.
+                parted
+                (groups-label g 100000000 1 1 1000 c i (join-pair .first) ∙ joined ∙ sym (groups-label g 100000000 1 1 1000 c j (join-pair .second))))

@@ -16,6 +16,7 @@ use Rattle.rules.specs.Sets.{Inside}
 use Rattle.rules.specs.Community.{community, communityIn}
 use Rattle.rules.specs.Groups.{label, groups, table, distinct}
 use Rattle.rules.specs.Sweep.{sweep}
+use Rattle.rules.specs.Order.{lowestWith}
 use Rattle.rules.proofs.Communities.{fence-off}
 use Rattle.rules.proofs.Rates.{coarser}
 use Rattle.rules.proofs.Family.{Family}
@@ -62,7 +63,7 @@ module _ (g : Plant) (p q : ℕ) where
 
       -- the lowest devices with an owner are the labels
       pub owners-groups : table (g .devices) (firstWith (g .devices) owner) ≡ groups g p q
-      unfolding groups firstWith
+      unfolding groups firstWith lowestWith
       owners-groups = table-agree n (firstWith n owner) (label g p q) (λ v h. lowest-agree n _ _ (λ u hu. rw (at u hu, at v h)) ∙ sym (sweep-label g p q fam wanted cover v h))
 
       pub owners-owned : Owned g p q owner

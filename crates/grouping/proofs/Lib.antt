@@ -8,7 +8,9 @@
 --     SearchLaws  the recursive search between two levels, on plain lists
 --     CrossLaws   the crossing rate from the greatest rate of each coarser label and the least of these
 --     HalfLaws    the two halves of the stretch between two known levels
+--     EndCalls    the levels at the largest and at the least rate
 --     CallLaws    the calls: what they answer and leave in the lent list
+--     HierarchyCalls  the hierarchy call
 --     JoinCalls   the call for a joining rate
 --     RowLaws     the row of a level in the label list
 --     RowCalls    the row of a level as it is shown: the first fault, test by test, and no accepted row is empty
@@ -24,6 +26,7 @@ pub mod HalfLaws
 pub mod SearchLaws
 pub mod GroupSums
 pub mod CrossLaws
+pub mod EndCalls
 pub mod CallLaws
 pub mod HierarchyCalls
 pub mod JoinCalls

@@ -1,10 +1,10 @@
 -- Labels from owners in one pass: after the devices below v, the first device with each owner is known, the labels below v are written,
 -- and as many are counted as are their own label. Assumes nothing.
 use mathlib.Core.Path.{_≡_, refl, sym, _∙_, ap}
-use mathlib.Core.Bool.{Bool, true, false, cond}
+use mathlib.Core.Bool.{true}
 use mathlib.Core.List.{List}
 use mathlib.Core.Logic.{_⊎_, inl, inr, ⊎-elim}
-use Prim.Native.Nat.{ℕ, zero, suc, _+_, _≤_, _<_}
+use Prim.Native.Nat.{ℕ, _+_, _≤_, _<_}
 use native.Mathlib.Nat.{eq-or-lt-of-le, add-zero}
 use native.Mathlib.Numerals.{add-one}
 use native.Mathlib.Decide.{ℕ-discrete}
@@ -16,6 +16,7 @@ use borrow.Author.Tests.{eqb-true, eq-eqb, ne-eqb}
 use borrow.Author.Count.{below-more}
 use Rattle.rules.specs.Cut.{Devices}
 use Rattle.rules.specs.Groups.{lowest, table, distinct}
+use Rattle.rules.specs.Order.{lowestWith}
 use Rattle.rules.proofs.LabelLaws.{lowest-in, lowest-le}
 use Rattle.rules.proofs.DistinctLaws.{owns, distinct-owns}
 use Rattle.rules.specs.Lists.{over}
@@ -24,15 +25,6 @@ use Rattle.grouping.specs.Level.{firstWith}
 -- the lowest device of a set is the first that the set holds
 pub lowest-first : (n : ℕ) (S : Devices) (v : ℕ) → v < n → S v ≡ true → ((u : ℕ) → u < v → S u ≡ true → ⊥) → lowest n S ≡ v
 lowest-first n S v h m none = ⊎-elim (λ e. e) (λ l. absurd (none (lowest n S) l (lowest-in n S v h m))) (eq-or-lt-of-le (lowest-le n S v h m))
-
-pub owns-le : (k : ℕ) (f : ℕ → ℕ) → owns k f ≤ k
-unfolding owns
-owns-le zero f = omega arith
-owns-le (suc k) f = go (eqb (f k) k) (owns-le k f)
-  where
-    go : (b : Bool) → owns k f ≤ k → owns k f + cond b 1 0 ≤ suc k
-    go true le = omega arith
-    go false le = omega arith
 
 owns-new : (v : ℕ) (f : ℕ → ℕ) → f v ≡ v → owns (v + 1) f ≡ owns v f + 1
 unfolding owns
@@ -77,7 +69,7 @@ module _ (n : ℕ) (owner : List ℕ) where
     -- the device v is the first with its owner
     pub firsts-new : getD first o 0 ≡ n → {first′ : List ℕ} {groups′ : ℕ} → first′ ≡ set first o v → groups′ ≡ groups + 1
         → Firsts first′ groups′ (v + 1) × (getD first′ o 0 ≡ firstWith n owner v)
-    unfolding firstWith
+    unfolding firstWith lowestWith
     firsts-new e a b = rw (a, b) (record { wide = rw length-set (now .wide); seen = λ o′ l. known o′ l (ℕ-discrete o′ o); counted = rw (owns-new v f low) (ap (λ (k : ℕ). k + 1) (now .counted)) }, here ∙ sym low)
       where
         none : (u : ℕ) → u < v → at u ≡ o → ⊥
@@ -96,7 +88,7 @@ module _ (n : ℕ) (owner : List ℕ) where
     -- an earlier device has its owner
     pub firsts-old : (getD first o 0 ≡ n → ⊥) → {first′ : List ℕ} {groups′ : ℕ} → first′ ≡ first → groups′ ≡ groups
         → Firsts first′ groups′ (v + 1) × (getD first′ o 0 ≡ firstWith n owner v)
-    unfolding firstWith
+    unfolding firstWith lowestWith
     firsts-old e a b = rw (a, b) (record { wide = now .wide; seen = λ o′ l. known o′ (now .seen o′ l); counted = now .counted ∙ sym (owns-old v f (omega (arith, same .0, same .1))) }, sym (same .1))
       where
         same : (getD first o 0 < v) × (f v ≡ getD first o 0)
@@ -108,7 +100,7 @@ module _ (n : ℕ) (owner : List ℕ) where
 
   -- each device is as the first with its owner says
   pub labels-distinct : distinct (table n (firstWith n owner)) ≡ owns n (firstWith n owner)
-  unfolding firstWith
+  unfolding firstWith lowestWith
   labels-distinct = distinct-owns n f low twice
     where
       low : (i : ℕ) → i < n → f i ≤ i

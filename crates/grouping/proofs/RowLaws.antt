@@ -1,9 +1,9 @@
--- The row of a level in the label list: entry by entry, kept where its entries are, and written entry by entry.
+-- The row of a level in the label list: entry by entry, kept where its entries are, and written entry by entry; entries that fillings leave alone.
 -- Assumes nothing.
-use Prim.Native.Nat.{ℕ, _+_, _*_, _≤_, _<_}
+use Prim.Native.Nat.{ℕ, suc, _+_, _*_, _≤_, _<_}
 use mathlib.Core.Path.{_≡_, refl, sym, _∙_}
 use mathlib.Core.List.{List}
-use native.Mathlib.Nat.{mul-le-mul-right, suc-mul, min-le-left}
+use native.Mathlib.Nat.{mul-le-mul-right, suc-mul, min-le-left, le-add-right}
 use native.Mathlib.Omega.{arith}
 use lib.ListN.{length, getD, set, drop, length-set, length-take, length-drop}
 use lib.Seq.{ext-getD, getD-take, getD-drop, getD-set-same, getD-set-other, length-take-le}
@@ -12,6 +12,22 @@ use Rattle.rules.specs.Groups.{table}
 use Rattle.rules.proofs.LabelLaws.{length-table, getD-table, table-agree}
 use Rattle.grouping.specs.Calls.{rowOf}
 use Rattle.grouping.specs.Stretch.{KeptOutside}
+
+-- a filling from f to t, and then one from f′ to t′
+pub kept-join : {f t f′ t′ : ℕ} {a b c : List ℕ} → f ≤ f′ → t ≤ t′ → KeptOutside f t a b → KeptOutside f′ t′ b c → KeptOutside f t′ a c
+kept-join l m x y = record {
+  length-same = y .length-same ∙ x .length-same;
+  before = λ j h. y .before j (omega arith) ∙ x .before j h;
+  past = λ j h. y .past j h ∙ x .past j (omega arith);
+}
+
+-- one entry is stored
+pub kept-set : (at x : ℕ) (old : List ℕ) → KeptOutside at (suc at) old (set old at x)
+kept-set at x old = record {
+  length-same = length-set old at x;
+  before = λ j h. getD-set-other old at j x 0 (omega arith);
+  past = λ j h. getD-set-other old at j x 0 (omega arith);
+}
 
 -- each row lies in a list with room for all of them
 pub row-room : (n k rows room : ℕ) → k < rows → rows * n ≤ room → k * n + n ≤ room
@@ -57,15 +73,14 @@ module _ (start : ℕ) (f : ℕ → ℕ) (old new : List ℕ) (v : ℕ) (now : P
   -- one entry is stored
   pub put-more : start + v < length old → Put start f old (set new (start + v) (f v)) (v + 1)
   put-more h = record {
-    kept = record {
-      length-same = length-set new (start + v) (f v) ∙ now .kept .length-same;
-      before = λ j l. getD-set-other new (start + v) j (f v) 0 (λ e. omega arith) ∙ now .kept .before j l;
-      past = λ j l. getD-set-other new (start + v) j (f v) 0 (λ e. omega arith) ∙ now .kept .past j (omega arith);
-    };
+    kept = kept-join (le-add-right start v) (omega arith) (now .kept) (rw next (kept-set (start + v) (f v) new));
     row = below-more (λ u. getD (set new (start + v) (f v)) (start + u) 0 ≡ f u) v
         (λ u l. getD-set-other new (start + v) (start + u) (f v) 0 (λ e. omega arith) ∙ now .row u l)
         (getD-set-same new (start + v) (f v) 0 (omega (arith, now .kept .length-same)));
   }
+    where
+      next : start + (v + 1) ≡ suc (start + v)
+      next = omega arith
 
 -- the whole row is stored
 pub put-all : (n k : ℕ) (f : ℕ → ℕ) (old new : List ℕ) (v : ℕ) → Put (k * n) f old new v → v ≡ n → k * n + n ≤ length old

@@ -1,41 +1,34 @@
 -- The recursive search between two known levels, on plain lists: where the stretch ends at its crossing rate one low rate and one row are filled in; and what two halves have filled in is what the whole has.
---     kept-join       entries that two fillings in turn leave alone
 --     search-last     the stretch is not split: one low rate and the coarser level's row
 --     search-ready    between the two halves
 --     search-join     the two halves in turn
 --     search-halves   the same at the crossing rate
+--     some-..         what two known levels are enough for
+--     labels-groups   a list of labels as the groups at its rate
 -- Assumes nothing.
 use Prim.Native.Nat.{ℕ, suc, _+_, _*_, _≤_, _<_}
 use mathlib.Core.Path.{_≡_, sym, ap, subst, _∙_}
 use mathlib.Core.List.{List}
-use mathlib.Core.Logic.{_⊎_, inl, inr, ⊎-elim}
-use native.Mathlib.Nat.{mul-le-mul-right, suc-mul, le-refl, le-of-lt, le-antisymm, le-of-suc-le-suc, eq-or-lt-of-le}
+use mathlib.Core.Logic.{⊎-elim}
+use native.Mathlib.Nat.{mul-le-mul-right, suc-mul, le-refl, le-of-lt, le-antisymm, le-of-suc-le-suc}
 use native.Mathlib.Omega.{arith}
-use lib.ListN.{getD, set, length-set}
-use lib.Seq.{getD-set-same, getD-set-other}
+use lib.ListN.{getD, set}
+use lib.Seq.{getD-set-same}
 use Rattle.rules.specs.Plant.{Plant}
 use Rattle.rules.specs.Accepted.{Sound}
-use Rattle.rules.specs.Groups.{table, label, groups, distinct}
+use Rattle.rules.specs.Groups.{table, label, groups}
 use Rattle.rules.specs.Rates.{Below}
 use Rattle.rules.specs.Stretch.{Ladder}
 use Rattle.rules.proofs.OrderLaws.{le-or-below}
 use Rattle.rules.proofs.LabelLaws.{table-agree}
-use Rattle.rules.proofs.LevelLaws.{fewer-or-same, same-number, some-group}
+use Rattle.rules.proofs.LevelLaws.{fewer, some-group}
 use Rattle.rules.proofs.LadderLaws.{ladder-join, ladder-step, ladder-same}
 use Rattle.grouping.specs.Calls.{rowOf}
 use Rattle.grouping.specs.declared.level.Level.{Level}
-use Rattle.grouping.specs.Level.{Labelled, IsLevel}
+use Rattle.grouping.specs.Level.{Labelled, IsLevel, Between}
 use Rattle.grouping.specs.Stretch.{Apart, CrossingRate, Span, SomeSpan, Ready, KeptOutside, Searched}
-use Rattle.grouping.proofs.RowLaws.{row-kept}
-use Rattle.grouping.proofs.HalfLaws.{half-rate, half-last, half-more, half-finer, half-coarser, half-fewer}
-
--- a filling from f to t, and then one from f′ to t′
-pub kept-join : {f t f′ t′ : ℕ} {a b c : List ℕ} → f ≤ f′ → t ≤ t′ → KeptOutside f t a b → KeptOutside f′ t′ b c → KeptOutside f t′ a c
-kept-join l m x y = record {
-  length-same = y .length-same ∙ x .length-same;
-  before = λ j h. y .before j (omega arith) ∙ x .before j h;
-  past = λ j h. y .past j h ∙ x .past j (omega arith);
-}
+use Rattle.grouping.proofs.RowLaws.{kept-join, kept-set, row-kept}
+use Rattle.grouping.proofs.HalfLaws.{half-rate, half-between, half-last, half-more, half-finer, half-coarser, half-fewer}
 
 module _ (g : Plant) where
   abbrev n : ℕ
@@ -87,17 +80,9 @@ module _ (g : Plant) where
   }
 
   -- a list of labels as the groups at its rate
-  labels-groups : (p q : ℕ) (labels : List ℕ) → Labelled g p q labels → table (g .devices) (λ v. getD labels v 0) ≡ groups g p q
+  pub labels-groups : (p q : ℕ) (labels : List ℕ) → Labelled g p q labels → table (g .devices) (λ v. getD labels v 0) ≡ groups g p q
   unfolding groups
   labels-groups p q labels is = table-agree n (λ v. getD labels v 0) (label g p q) is
-
-  -- one entry is stored
-  kept-set : (at x : ℕ) (old : List ℕ) → KeptOutside at (suc at) old (set old at x)
-  kept-set at x old = record {
-    length-same = length-set old at x;
-    before = λ j h. getD-set-other old at j x 0 (omega arith);
-    past = λ j h. getD-set-other old at j x 0 (omega arith);
-  }
 
   -- the stretch is not split
   pub search-last :
@@ -156,14 +141,22 @@ module _ (g : Plant) where
 
   -- the finer of two levels that differ has at least two groups
   pub some-two : {finer owner coarser : List ℕ} {fine coarse : ℕ} → Sound g → 1 ≤ g .devices → SomeSpan g finer owner fine coarser coarse → 2 ≤ fine
-  some-two {finer} {owner} {coarser} {fine} s o (ap, aq, bp, bq, span) = go (eq-or-lt-of-le (fewer-or-same g ap aq bp bq s (a .some-ap) (a .some-bp) (a .some-bq) (le-of-lt (a .lower))))
-    where
-      a : Apart g ap aq bp bq finer coarser
-      a = span .apart
+  some-two s o (ap, aq, bp, bq, span) =
+      omega (
+        arith,
+        span .finer-count,
+        some-group g bp bq s (span .apart .some-bp) o,
+        fewer g ap aq bp bq s (span .apart .some-ap) (span .apart .some-bp) (span .apart .some-bq) (le-of-lt (span .apart .lower)) (span .apart .differ),
+      )
 
-      go : (distinct (groups g bp bq) ≡ distinct (groups g ap aq)) ⊎ (distinct (groups g bp bq) < distinct (groups g ap aq)) → 2 ≤ fine
-      go (inl e) = absurd (a .differ (sym (same-number g ap aq bp bq s (a .some-ap) (a .some-bp) (a .some-bq) (le-of-lt (a .lower)) e)))
-      go (inr h) = omega (arith, span .finer-count, some-group g bp bq s (a .some-bp) o)
+  -- what the crossing rate asks of two known levels, and what the level there asks
+  pub some-apart : {finer owner coarser : List ℕ} {fine coarse : ℕ} → SomeSpan g finer owner fine coarser coarse
+      → (ap : ℕ) × (aq : ℕ) × (bp : ℕ) × (bq : ℕ) × Apart g ap aq bp bq finer coarser
+  some-apart (ap, aq, bp, bq, span) = (ap, aq, bp, bq, span .apart)
+
+  pub some-between : {finer owner coarser : List ℕ} {fine coarse p q : ℕ} → Sound g → SomeSpan g finer owner fine coarser coarse → CrossingRate g finer coarser p q
+      → Between g p q owner coarser
+  some-between s (ap, aq, bp, bq, span) x = half-between s span x
 
   -- the stretch is split at its crossing rate
   module _

@@ -9,13 +9,14 @@ use lib.ListN.{length, getD}
 use Rattle.rules.specs.Plant.{Plant}
 use Rattle.rules.specs.Sets.{Inside, Agree}
 use Rattle.rules.specs.Community.{community}
-use Rattle.rules.specs.Groups.{groupOf, lowest, label, groups, distinct}
+use Rattle.rules.specs.Groups.{groupOf, label, groups, distinct}
+use Rattle.rules.specs.Order.{lowestWith}
 use Rattle.cut.specs.Calls.{fenceOf, wantedIn}
 use Rattle.grouping.specs.declared.level.Level.{Level}
 
 -- the lowest of n devices with the owner of v
 unfoldable pub firstWith : ℕ → List ℕ → ℕ → ℕ
-firstWith n owner v = lowest n (λ u. eqb (getD owner u 0) (getD owner v 0))
+firstWith n owner = lowestWith n (λ u. getD owner u 0)
 
 -- the labels are those of the grouping at p/q
 abbrev pub Labelled : Plant → ℕ → ℕ → List ℕ → Type 0

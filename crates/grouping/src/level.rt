@@ -47,8 +47,8 @@ fn level_inside(
     wanted: &[u8; DEVICES],
 ) -> Level
     requires { ⌜ (rateOk (rate .p) (rate .q) ≡ true) × Accepted n (now firsts) (now seconds) (now signals) ⌝ }
-    requires { ⌜ (length (now fence) ≡ 128) × (length (now wanted) ≡ 128) ⌝ }
     requires { ⌜ Enough (plantOf n (now firsts) (now seconds) (now signals)) (rate .p) (rate .q) (now fence) (now wanted) ⌝ }
+    requires { ⌜ (length (now fence) ≡ 128) × (length (now wanted) ≡ 128) ⌝ }
     ensures { λ r. ⌜ IsLevel (plantOf n (now (firsts .entry)) (now (seconds .entry)) (now (signals .entry))) (rate .p) (rate .q) r ⌝ }
 {
     let mut owner = [0usize; DEVICES];

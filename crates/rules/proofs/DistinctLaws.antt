@@ -11,6 +11,7 @@ use Rattle.rules.specs.Plant.{Plant}
 use Rattle.rules.specs.Cut.{size}
 use Rattle.rules.specs.Community.{community}
 use Rattle.rules.specs.Groups.{table, label, groups, among, distinct}
+use Rattle.rules.proofs.SetLaws.{cond-most}
 use Rattle.rules.proofs.Family.{Family}
 use Rattle.rules.proofs.LabelLaws.{label-le, label-label}
 
@@ -18,6 +19,12 @@ use Rattle.rules.proofs.LabelLaws.{label-le, label-label}
 unfoldable pub owns : ℕ → (ℕ → ℕ) → ℕ
 owns zero f = 0
 owns (suc k) f = owns k f + cond (eqb (f k) k) 1 0
+
+-- there are no more than k
+pub owns-most : (k : ℕ) (f : ℕ → ℕ) → owns k f ≤ k
+unfolding owns
+owns-most zero f = le-refl 0
+owns-most (suc k) f = omega (arith, owns-most k f, cond-most (eqb (f k) k) 1)
 
 -- a list's last entry
 pub table-snoc : (n : ℕ) (f : ℕ → ℕ) → table (suc n) f ≡ table n f ++ (f n ∷ [])

@@ -27,7 +27,7 @@ use Rattle.rules.proofs.GroupLaws.{group-community, group-holds}
 use Rattle.rules.proofs.LabelLaws.{lowest-in, table-agree, label-from, label-same}
 use Rattle.rules.proofs.Instance.{family}
 use Rattle.rules.proofs.Divides.{group-coarser}
-use Rattle.rules.proofs.PlantLaws.{signals-most, out-total}
+use Rattle.rules.proofs.PlantLaws.{out-most}
 use Rattle.rules.proofs.LevelLaws.{agree-groups}
 
 -- the set of one device
@@ -88,10 +88,6 @@ module _ (g : Plant) (p q most : ℕ) (s : Sound g) (o : 1 ≤ p) (bound : (S : 
   pub top : groups g p q ≡ table n (λ v. v)
   unfolding groups
   top = table-agree n (label g p q) (λ v. v) label-alone
-
--- of an accepted plant no set has more than all signals out
-pub out-most : (n : ℕ) (xs ys zs : List ℕ) → Accepted n xs ys zs → (S : Devices) → out (plantOf n xs ys zs .lines) S ≤ 67107840
-out-most n xs ys zs a S = omega (arith, out-total (plantOf n xs ys zs .lines) S, signals-most n xs ys zs a)
 
 -- of an accepted plant every device is alone from 100,000,000/1 on
 pub top-accepted : (n : ℕ) (xs ys zs : List ℕ) (p q : ℕ) → Accepted n xs ys zs → 1 ≤ q → 100000000 * q ≤ p → groups (plantOf n xs ys zs) p q ≡ table n (λ v. v)

@@ -49,16 +49,6 @@ module _ (n : ℕ) (f : ℕ → ℕ) (old : List ℕ) where
         here : (v : ℕ) → v ≡ k → getD (set new k x) v 0 ≡ f v
         here v i = ap (λ (u : ℕ). getD (set new k x) u 0) i ∙ getD-set-same new k x 0 (omega (arith, w .room, w .size)) ∙ e ∙ ap f (sym i)
 
-    -- one entry is right as it stands
-    pub filled-kept : getD old k 0 ≡ f k → Filled n f old new (k + 1)
-    filled-kept e = record {
-      within = omega arith;
-      room = w .room;
-      size = w .size;
-      front = λ v h. ⊎-elim (λ i. ap (λ (u : ℕ). getD new u 0) i ∙ w .rest k (omega arith) ∙ e ∙ ap f (sym i)) (w .front v) (below v h);
-      rest = λ v h. w .rest v (omega arith);
-    }
-
   over-length : n ≤ length old → length (over (table n f) old) ≡ length old
   unfolding over
   over-length h =

@@ -2,14 +2,15 @@
 --     groups-agree, agree-groups   from equal lists to equal groups, and back
 --     squeeze                      between two rates with one grouping there is no other
 --     fewer-or-same, same-number   a lower rate has no more groups, and as many only if they are the same
+--     fewer                        and fewer if they are not
 --     some-group, most-groups      at least one group, at most n
 -- Assumes nothing.
 use Prim.Native.Nat.{ℕ, zero, suc, _*_, _≤_, _<_}
 use mathlib.Core.Path.{_≡_, refl, sym, ap, _∙_}
 use mathlib.Core.Bool.{Bool, true, false, cond}
 use mathlib.Core.List.{List}
-use mathlib.Core.Logic.{_↔_}
-use native.Mathlib.Nat.{le-refl, le-step, lt-suc-self}
+use mathlib.Core.Logic.{_↔_, ⊎-elim}
+use native.Mathlib.Nat.{le-refl, le-step, lt-suc-self, eq-or-lt-of-le}
 use native.Mathlib.Omega.{arith}
 use lib.Dec.{eqb}
 use lib.ListN.{getD}
@@ -18,9 +19,9 @@ use Rattle.rules.specs.Plant.{Plant}
 use Rattle.rules.specs.Accepted.{Sound}
 use Rattle.rules.specs.Sets.{Agree}
 use Rattle.rules.specs.Groups.{groupOf, label, groups, distinct}
-use Rattle.rules.proofs.SetLaws.{cond-most, same-bool, agree-inside, agree-sym, agree-both, below-suc}
+use Rattle.rules.proofs.SetLaws.{same-bool, agree-inside, agree-sym, agree-both, below-suc}
 use Rattle.rules.proofs.LabelLaws.{table-agree, lowest-agree, label-le, label-below, label-label, label-same, groups-at}
-use Rattle.rules.proofs.DistinctLaws.{owns, groups-distinct}
+use Rattle.rules.proofs.DistinctLaws.{owns, owns-most, groups-distinct}
 use Rattle.rules.proofs.Instance.{family, group-within, never-divides}
 
 -- the same group of each device, the same list
@@ -130,17 +131,16 @@ module _ (g : Plant) (p q p′ q′ : ℕ) (s : Sound g) (o : 1 ≤ p) (o′ : 1
       own-lower : (i : ℕ) → i < n → label g p q i ≡ i → label g p′ q′ i ≡ i
       own-lower = owns-back n (label g p′ q′) (label g p q) own-higher as-many
 
--- a number that is its own value counts, and there are no more than k below k
+  -- so there are fewer where the two differ
+  pub fewer : (groups g p q ≡ groups g p′ q′ → ⊥) → distinct (groups g p′ q′) < distinct (groups g p q)
+  fewer differ = ⊎-elim (λ e. absurd (differ (sym (same-number e)))) (λ h. h) (eq-or-lt-of-le fewer-or-same)
+
+-- a number that is its own value counts
 owns-some : (k : ℕ) (f : ℕ → ℕ) → f 0 ≡ 0 → 1 ≤ k → 1 ≤ owns k f
 unfolding owns
 owns-some zero f e h = absurd (omega arith)
 owns-some (suc zero) f e h = rw (eq-eqb (f 0) 0 e) (le-refl 1)
 owns-some (suc (suc k)) f e h = omega (arith, owns-some (suc k) f e (omega arith))
-
-owns-most : (k : ℕ) (f : ℕ → ℕ) → owns k f ≤ k
-unfolding owns
-owns-most zero f = le-refl 0
-owns-most (suc k) f = omega (arith, owns-most k f, cond-most (eqb (f k) k) 1)
 
 module _ (g : Plant) (p q : ℕ) (s : Sound g) (o : 1 ≤ p) where
   pub some-group : 1 ≤ g .devices → 1 ≤ distinct (groups g p q)

@@ -1,7 +1,7 @@
 -- Document 01, "The plant", of an accepted plant.
 --     pair-once       two different lines are different pairs
 --     signals-most    all signals together are at most 67,107,840
---     out-total       no set of devices has more signals out than all signals together
+--     out-total, out-most   no set of devices has more signals out than all signals together
 -- Assumes nothing.
 use Prim.Native.Nat.{ℕ, zero, suc, _*_, _≤_, _<_, zero-le, suc-le-suc}
 use mathlib.Core.Path.{_≡_, sym}
@@ -87,3 +87,7 @@ pub out-total : (ls : List Line) (S : Devices) → out ls S ≤ total ls
 unfolding out total
 out-total [] S = zero-le
 out-total (l ∷ ls) S = omega (arith, crossing-most (l .signals) (S (l .first)) (S (l .second)), out-total ls S)
+
+-- nor of an accepted plant more than 67,107,840
+pub out-most : (n : ℕ) (xs ys zs : List ℕ) → Accepted n xs ys zs → (S : Devices) → out (plantOf n xs ys zs .lines) S ≤ 67107840
+out-most n xs ys zs a S = omega (arith, out-total (plantOf n xs ys zs .lines) S, signals-most n xs ys zs a)

@@ -3,6 +3,7 @@
 --     ..-submodular, size-modular     the devices in both sets, and those in either, against the two sets
 --     out-posimodular, size-minus     the differences of two sets
 --     size-inside, inside-equal       a set inside another
+--     size-most                       no set has more devices than the plant
 -- Assumes nothing.
 use Prim.Native.Nat.{ℕ, zero, suc, _+_, _*_, _≤_, _<_}
 use mathlib.Core.Path.{_≡_, refl, ap, sym, _∙_, fun-ext}
@@ -11,7 +12,7 @@ use mathlib.Core.List.{List, [], _∷_}
 use native.Mathlib.Nat.{le-refl, le-step, mul-add, mul-le-mul-left, lt-suc-self, eq-zero-or-pos}
 use native.Mathlib.Omega.{arith}
 use mathlib.Core.Logic.{_⊎_, inl, inr}
-use Rattle.rules.proofs.SetLaws.{below-suc}
+use Rattle.rules.proofs.SetLaws.{below-suc, cond-most}
 use Rattle.rules.specs.Plant.{Line, Plant}
 use Rattle.rules.specs.Accepted.{EndsBelow, Sound}
 use Rattle.rules.specs.Cut.{Devices, crossing, out, sizeAt, sizeBelow, size, cost}
@@ -188,6 +189,16 @@ below-equal g (suc k) S T h l =
 pub inside-equal : (g : Plant) (S T : Devices) → Inside (g .devices) S T → size g T ≤ size g S → Agree (g .devices) S T
 unfolding size
 inside-equal g S T h l = below-equal g (g .devices) S T h l
+
+below-most : (g : Plant) (k : ℕ) (S : Devices) → sizeBelow g k S ≤ k
+unfolding sizeBelow sizeAt
+below-most g zero S = le-refl 0
+below-most g (suc k) S = omega (arith, below-most g k S, cond-most (S k) 1)
+
+-- no set has more devices than the plant
+pub size-most : (g : Plant) (S : Devices) → size g S ≤ g .devices
+unfolding size
+size-most g S = below-most g (g .devices) S
 
 -- a set that holds a device is not empty
 pub size-holds : (g : Plant) (S : Devices) (x : ℕ) → x < g .devices → S x ≡ true → 1 ≤ size g S

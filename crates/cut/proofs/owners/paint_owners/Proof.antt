@@ -2,11 +2,10 @@
 -- Assumes nothing.
 use Prim.Native.Nat.{_-_}
 use mathlib.Core.Bool.{cond}
-use mathlib.Core.Logic.{⊎-elim}
+use native.Mathlib.Nat.{le-refl}
 use lib.Dec.{eqb}
 use lib.ListN.{getD}
-use borrow.Author.Tests.{eq-eqb, ne-eqb}
-use Rattle.rules.proofs.FillLaws.{Filled, filled-start, filled-more, filled-kept, filled-done}
+use Rattle.rules.proofs.FillLaws.{Filled, filled-start, filled-more, filled-done}
 use borrow.Author.Needs.{needs}
 use Rattle.cut.proofs.owners.paint_owners.Statement.{statement}
 use Rattle.cut.proofs.owners.paint_owners.Tie as tie
@@ -18,10 +17,19 @@ abbrev μ-loop : tie.MeasureT-loop
 μ-loop n k mark owner₀ v₀ owner v = n - v
 
 loop-holds : tie.Need-loop-holds Inv-loop μ-loop
-loop-holds c = filled-start _ _ _ (c .pre .1)
+loop-holds c = filled-start _ _ _ (c .before .pre .1)
 
-element-copy-out-if1 : tie.Need-element-copy-out-if1 Inv-loop μ-loop
-element-copy-out-if1 c = search needs
+element-copy-out-owner-after : tie.Need-element-copy-out-owner-after Inv-loop μ-loop
+element-copy-out-owner-after c = search needs
+
+mul-owner-after : tie.Need-mul-owner-after Inv-loop μ-loop
+mul-owner-after c = search needs
+
+slice-read-owner-after : tie.Need-slice-read-owner-after Inv-loop μ-loop
+slice-read-owner-after c = search needs
+
+owner-after-requires : tie.Need-owner-after-requires Inv-loop μ-loop
+owner-after-requires c κs = search needs
 
 mul-owner : tie.Need-mul-owner Inv-loop μ-loop
 mul-owner c = search needs
@@ -37,10 +45,8 @@ loop-less c = search needs
 
 loop-again : tie.Need-loop-again Inv-loop μ-loop
 loop-again c =
-    ⊎-elim
-    (λ w. rw (w .1) (filled-more _ _ _ (c .before .before .before .loop .inv) (c .before .before .loop-test .taken) _ (simp (eq-eqb _ _ (w .0 .taken)))))
-    (λ w. rw (w .1) (filled-kept _ _ _ (c .before .before .before .loop .inv) (c .before .before .loop-test .taken) (simp (ne-eqb _ _ (w .0 .left)))))
-    (c .if1 .came)
+    let at = c .before .before .before .before in
+    filled-more _ _ _ (at .loop .inv) (c .before .before .before .loop-test .taken) _ (rw (at .loop .inv .rest (at .loop .v) (le-refl (at .loop .v))) at (c .owner-after .ensures))
 
 same-length : tie.Need-same-length Inv-loop μ-loop
 same-length c = c .before .loop .inv .size
@@ -55,7 +61,10 @@ paint-owners-spec =
     Inv-loop
     μ-loop
     loop-holds
-    element-copy-out-if1
+    element-copy-out-owner-after
+    mul-owner-after
+    slice-read-owner-after
+    owner-after-requires
     mul-owner
     slice-write-owner
     add-v

@@ -8,8 +8,7 @@ use borrow.Fn.PlainCycle.{Measures, is, falls, and}
 use lib.ListN.{length-set}
 use Rattle.rules.specs.Plant.{plantOf}
 use Rattle.rules.proofs.RefusalLaws.{accepted-sound}
-use Rattle.grouping.proofs.HalfLaws.{half-between}
-use Rattle.grouping.proofs.SearchLaws.{search-last, search-ready, some-two, some-finer, some-coarser, some-fewer, search-halves}
+use Rattle.grouping.proofs.SearchLaws.{search-last, search-ready, some-two, some-apart, some-between, some-finer, some-coarser, some-fewer, search-halves}
 use Rattle.grouping.proofs.hierarchy.search.Reads as search′
 use Rattle.grouping.proofs.hierarchy.search.Kinds as search-kinds
 use Rattle.grouping.proofs.hierarchy.+search.Lts-search as search-lts
@@ -53,7 +52,7 @@ search-crossing-requires : (t : ℕ) → search-lts.Need-crossing-requires (
   search-below t,
   search′.Post,
 ) (search-at t) search′.Post
-search-crossing-requires t c κs = ((c .before .before .before .before .before .before .pre .1) .0 .0, let (ap, aq, bp, bq, span) = (c .before .before .before .before .before .before .pre .1) .1 .0 in (ap, aq, bp, bq, span .apart))
+search-crossing-requires t c κs = ((c .before .before .before .before .before .before .pre .1) .0 .0, some-apart _ ((c .before .before .before .before .before .before .pre .1) .1 .0))
 
 search-level-between-requires : (t : ℕ) → search-lts.Need-level-between-requires (
   crossing-reads.Asked,
@@ -67,7 +66,7 @@ search-level-between-requires : (t : ℕ) → search-lts.Need-level-between-requ
 ) (search-at t) search′.Post
 search-level-between-requires t c κs = (
   (c .crossing .ensures .accepted, (c .before .before .before .before .before .before .before .pre .1) .0 .0),
-  ((c .before .before .before .before .before .before .before .pre .1) .0 .1, let (ap, aq, bp, bq, span) = (c .before .before .before .before .before .before .before .pre .1) .1 .0 in half-between (accepted-sound _ _ _ _ ((c .before .before .before .before .before .before .before .pre .1) .0 .0)) span (c .crossing .ensures)),
+  ((c .before .before .before .before .before .before .before .pre .1) .0 .1, some-between _ (accepted-sound _ _ _ _ ((c .before .before .before .before .before .before .before .pre .1) .0 .0)) ((c .before .before .before .before .before .before .before .pre .1) .1 .0) (c .crossing .ensures)),
 )
 
 search-mul-low-p : (t : ℕ) → search-lts.Need-mul-low-p (

@@ -1,20 +1,17 @@
 -- `grouping::hierarchy::fill_hierarchy` meets its contract: the two ends, and the search between them. Assumes nothing.
-use mathlib.Core.Path.{refl}
 use native.Mathlib.Numerals.{add-one}
 use native.Mathlib.Omega.{arith}
 use borrow.Author.Needs.{needs}
-use Rattle.rules.specs.Rates.{rateOk}
+use Rattle.rules.proofs.RangeLaws.{least-accepted, largest-accepted}
 use Rattle.grouping.proofs.HierarchyCalls.{two-ends, ready-first, listed-sole, listed-all}
 use Rattle.grouping.proofs.hierarchy.fill_hierarchy.Statement.{statement}
 use Rattle.grouping.proofs.hierarchy.fill_hierarchy.Tie as tie
 
 level-at-requires : tie.Need-level-at-requires
-unfolding rateOk
-level-at-requires c κs = (refl, c .before .before .before .before .before .before .pre .0)
+level-at-requires c κs = (largest-accepted, c .before .before .before .before .before .before .pre .0)
 
 level-at-requires-2 : tie.Need-level-at-requires-2
-unfolding rateOk
-level-at-requires-2 c κs = (refl, c .before .before .before .before .before .before .before .pre .0)
+level-at-requires-2 c κs = (least-accepted, c .before .before .before .before .before .before .before .pre .0)
 
 put-row-requires : tie.Need-put-row-requires
 put-row-requires c κs = search needs

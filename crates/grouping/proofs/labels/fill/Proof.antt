@@ -9,8 +9,9 @@ use lib.ListN.{length, getD}
 use Rattle.rules.specs.Groups.{table}
 use Rattle.rules.specs.Lists.{over}
 use Rattle.grouping.specs.Level.{firstWith}
+use Rattle.rules.proofs.DistinctLaws.{owns-most}
 use Rattle.rules.proofs.FillLaws.{over-size, over-more, over-none}
-use Rattle.grouping.proofs.OwnerLaws.{Firsts, firsts-start, firsts-new, firsts-old, firsts-all, owns-le}
+use Rattle.grouping.proofs.OwnerLaws.{Firsts, firsts-start, firsts-new, firsts-old, firsts-all}
 use Rattle.grouping.proofs.labels.fill.Statement.{statement}
 use Rattle.grouping.proofs.labels.fill.Tie as tie
 
@@ -48,7 +49,7 @@ array-write-first c = omega (arith, device (c .before .before))
 
 add-groups : tie.Need-add-groups Inv-loop μ-loop
 add-groups c =
-    omega (arith, c .before .before .before .loop .inv .2 .counted, owns-le (c .before .before .before .loop .v) (firstWith (c .before .before .before .before .args .n) (c .before .before .before .before .args .owner .now)))
+    omega (arith, c .before .before .before .loop .inv .2 .counted, owns-most (c .before .before .before .loop .v) (firstWith (c .before .before .before .before .args .n) (c .before .before .before .before .args .owner .now)))
 
 mul-labels : tie.Need-mul-labels Inv-loop μ-loop
 mul-labels c = omega (arith, device (c .before .before))

@@ -6,7 +6,7 @@ use Rattle.grouping.proofs.level.level_at.Statement.{statement}
 use Rattle.grouping.proofs.level.level_at.Tie as tie
 
 level-inside-requires : tie.Need-level-inside-requires
-level-inside-requires c κs = (start .pre, ((refl, refl), all-enough _ _ _ _ _ _ (cleared _ _ _ _ _ _ (start .pre .1) (start .pre .0))))
+level-inside-requires c κs = (start .pre, (all-enough _ _ _ _ _ _ (cleared _ _ _ _ _ _ (start .pre .1) (start .pre .0)), (refl, refl)))
   where
     start : tie.Start
     start = c .before .before .before .before .before

@@ -14,8 +14,8 @@ level-inside-requires : tie.Need-level-inside-requires
 level-inside-requires c κs = (
   start .pre .0,
   (
-    (start .pre .1 .0, good-length (eInt w8) 128 (c .before .marked .result) _ (c .before .marked .ok)),
     between-enough _ _ _ _ _ _ (cleared _ _ _ _ _ _ (start .pre .0 .1) (start .pre .0 .0)) _ _ (start .pre .1 .1) _ (c .before .marked .ensures),
+    (start .pre .1 .0, good-length (eInt w8) 128 (c .before .marked .result) _ (c .before .marked .ok)),
   ),
 )
   where

@@ -18,7 +18,7 @@ fill-requires : tie.Need-fill-requires
 fill-requires c κs = (
   start .pre .0 .1 .most-devices,
   start .pre .0 .1 .most-devices,
-  found-devices _ _ _ _ _ _ (cleared _ _ _ _ _ _ (start .pre .0 .1) (start .pre .0 .0)) _ _ (start .pre .1 .0 .0) (start .pre .1 .0 .1) (start .pre .1 .1) _ (c .before .before .before .owners .ensures .1),
+  found-devices _ _ _ _ _ _ (cleared _ _ _ _ _ _ (start .pre .0 .1) (start .pre .0 .0)) _ _ (start .pre .1 .1 .0) (start .pre .1 .1 .1) (start .pre .1 .0) _ (c .before .before .before .owners .ensures .1),
 )
   where
     start : tie.Start
@@ -26,7 +26,7 @@ fill-requires c κs = (
 
 returns : tie.Need-returns
 returns c =
-    found-level _ _ _ _ _ _ (cleared _ _ _ _ _ _ (start .pre .0 .1) (start .pre .0 .0)) _ _ (start .pre .1 .0 .0) (start .pre .1 .0 .1) (start .pre .1 .1) _ (c .before .before .before .before .before .owners .ensures .1)
+    found-level _ _ _ _ _ _ (cleared _ _ _ _ _ _ (start .pre .0 .1) (start .pre .0 .0)) _ _ (start .pre .1 .1 .0) (start .pre .1 .1 .1) (start .pre .1 .0) _ (c .before .before .before .before .before .owners .ensures .1)
     (c .before .fill .ensures .1) (c .before .fill .ensures .0)
   where
     start : tie.Start
