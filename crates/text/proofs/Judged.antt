@@ -19,6 +19,7 @@ use Rattle.text.specs.declared.Reading.{Reading}
 use Rattle.text.specs.Lines.{row}
 use Rattle.text.specs.Form.{form, column}
 use Rattle.text.specs.Reading.{longFault, formFault, valuesOf, firstsOf, secondsOf, signalsOf, noRoom, roomsFault, readFault, readAnswer, refusedWith, readList, ReadIs, sizeFault, headFault}
+use Rattle.text.proofs.Lists.{column-length}
 
 -- what the form is refused for
 pub form-wrong : (line : ℕ) → (line ≡ 0 → ⊥) → record { number = 15; place = line } ≡ formFault line
@@ -74,11 +75,6 @@ pub read-order : (t : List ℕ) (a b c : ℕ)
 unfolding readFault afterPlant fixedOrder about nothing inOrder firstOf headFault sizeFault
 read-order t a b c =
     simp (orElse-assoc, done-next, orElse-done (roomsFault (form t .lines) a b c) (rooms-clean (form t .lines) a b c)) refl
-
-pub column-length : (f : Row → ℕ) (m : ℕ) (l : List ℕ) → length (column f m l) ≡ m
-unfolding column
-column-length f zero l = refl
-column-length f (suc m) l = ap suc (column-length f m (drop (row l .used) l))
 
 pub values-length : (f : Row → ℕ) (t : List ℕ) → length (valuesOf f t) ≡ form t .lines
 unfolding valuesOf

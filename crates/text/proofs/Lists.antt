@@ -2,14 +2,14 @@
 --     Copied      what a loop that copies s to a list has done: i elements from a place on
 --     Kept        what a loop over rows has kept in one array: the numbers of the first i of m rows
 -- Assumes nothing.
-use Prim.Native.Nat.{ℕ, suc, _+_, _-_, _≤_, _<_, zero-le}
+use Prim.Native.Nat.{ℕ, zero, suc, _+_, _-_, _≤_, _<_, zero-le}
 use native.Mathlib.Nat.{zero-add, le-antisymm}
 use native.Mathlib.Numerals.{add-one}
 use native.Mathlib.Omega.{arith}
 use mathlib.Core.Path.{_≡_, refl, sym, ap, subst, _∙_}
 use mathlib.Core.List.{List, _++_, append-assoc, append-nil}
-use lib.ListN.{length, getD, set, take, drop, length-set, length-drop}
-use lib.Seq.{paste, paste-zero, paste-suc, take-length, take-suc-set, drop-drop}
+use lib.ListN.{length, getD, set, take, drop, length-set, length-drop, take-append-drop}
+use lib.Seq.{paste, paste-zero, paste-suc, take-length, take-at, take-suc-set, drop-set-lt, drop-drop}
 use Rattle.rules.specs.Lists.{over}
 use Rattle.text.specs.declared.Row.{Row}
 use Rattle.text.specs.Lines.{row}
@@ -47,28 +47,42 @@ pub copied-whole : {d s l : List ℕ} {i : ℕ} → Copied d 0 s l i → length 
 unfolding over
 copied-whole {d} {s} {l} {i} c h = copied-all c h ∙ ap (λ (k : ℕ). s ++ drop k d) (zero-add (length s))
 
-pub record Kept (f : Row → ℕ) (t : List ℕ) (start m : ℕ) (a : List ℕ) (at i : ℕ) : Type 0 where
+pub column-length : (f : Row → ℕ) (m : ℕ) (l : List ℕ) → length (column f m l) ≡ m
+unfolding column
+column-length f zero l = refl
+column-length f (suc m) l = ap suc (column-length f m (drop (row l .used) l))
+
+-- the front of a list that begins with the numbers of m rows
+pub column-front : (f : Row → ℕ) (m : ℕ) (l old : List ℕ) {a : List ℕ} → a ≡ over (column f m l) old → take m a ≡ column f m l
+unfolding over
+column-front f m l old e = ap (take m) e ∙ take-at (column f m l) (drop (length (column f m l)) old) m (column-length f m l)
+
+pub record Kept (f : Row → ℕ) (t : List ℕ) (start m : ℕ) (old a : List ℕ) (at i : ℕ) : Type 0 where
   pub long : length a ≡ 1024
+  pub same : drop i a ≡ drop i old
   pub rest : column f m (drop start t) ≡ take i a ++ column f (m - i) (drop at t)
 
-pub kept-start : (f : Row → ℕ) (t : List ℕ) (start m : ℕ) (a : List ℕ) → length a ≡ 1024 → Kept f t start m a start 0
-kept-start f t start m a h = let z : m - 0 ≡ m = omega arith in record { long = h; rest = rw z refl }
+pub kept-start : (f : Row → ℕ) (t : List ℕ) (start m : ℕ) (a : List ℕ) → length a ≡ 1024 → Kept f t start m a a start 0
+kept-start f t start m a h = let z : m - 0 ≡ m = omega arith in record { long = h; same = refl; rest = rw z refl }
 
-module _ {f : Row → ℕ} {t : List ℕ} {start m : ℕ} {a : List ℕ} {at i : ℕ} (k : Kept f t start m a at i) where
-  pub kept-all : m ≤ i → i ≤ m → take m a ≡ column f m (drop start t)
-  unfolding column
+module _ {f : Row → ℕ} {t : List ℕ} {start m : ℕ} {old a : List ℕ} {at i : ℕ} (k : Kept f t start m old a at i) where
+  pub kept-all : m ≤ i → i ≤ m → a ≡ over (column f m (drop start t)) old
+  unfolding column over
   kept-all h l =
       let e : i ≡ m = omega arith in
       let z : m - m ≡ 0 = omega arith in
-      sym (k .rest ∙ rw (e, z, append-nil) refl)
+      let front : take i a ≡ column f m (drop start t) = sym (k .rest ∙ rw (e, z, append-nil) refl) in
+      let n : length (column f m (drop start t)) ≡ i = column-length f m (drop start t) ∙ sym e in
+      sym (take-append-drop i a) ∙ rw (front, k .same, n) refl
 
-  pub kept-more : {r : Row} → i < m → m ≤ 1024 → r ≡ row (drop at t) → Kept f t start m (set a i (f r)) (at + r .used) (i + 1)
+  pub kept-more : {r : Row} → i < m → m ≤ 1024 → r ≡ row (drop at t) → Kept f t start m old (set a i (f r)) (at + r .used) (i + 1)
   unfolding column
   kept-more {r} less most e =
       let in-array : i < length a = omega (arith, k .long) in
       let next : m - i ≡ suc (m - (i + 1)) = omega arith in
       record {
         long = length-set a i (f r) ∙ k .long;
+        same = drop-set-lt (i + 1) a i (f r) (omega arith) ∙ sym (drop-drop 1 i a) ∙ ap (drop 1) (k .same) ∙ drop-drop 1 i old;
         rest = k .rest ∙ rw (next, sym e, drop-drop (r .used) at t, add-one, take-suc-set a i (f r) in-array, append-assoc) refl;
       }
 

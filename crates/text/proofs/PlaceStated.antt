@@ -20,7 +20,7 @@ use Rattle.text.specs.Reading.{valuesOf}
 use Rattle.text.specs.Place.{textLines, firstLines, Small, RightForm, Expected}
 use Rattle.text.proofs.Fields.{by-cond, field-small}
 use Rattle.text.proofs.Forms.{rows-most}
-use Rattle.text.proofs.Judged.{column-length}
+use Rattle.text.proofs.Lists.{column-length}
 use Rattle.text.proofs.LineLaws.{begins-split, row-written}
 use Rattle.text.proofs.TextLaws.{rows-written, devicesAt, linesAt, rowsAt, form-written, devices-written, lines-written}
 use Rattle.text.proofs.PlaceLines.{line-first, row-line, rows-end, words-plant, words-devices, words-lines, words-count}

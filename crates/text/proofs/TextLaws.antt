@@ -20,7 +20,7 @@ use Rattle.text.specs.Place.{Small}
 use Rattle.text.proofs.Steps.{past}
 use Rattle.text.proofs.Fields.{by-cond}
 use Rattle.text.proofs.Forms.{form-good}
-use Rattle.text.proofs.Judged.{column-length}
+use Rattle.text.proofs.Lists.{column-length}
 use Rattle.text.proofs.LineLaws.{begins-self, begins-split, no-newline, field-reads, field-written, row-reads, row-written}
 
 -- what reading finds where the rows of three lists stand, and then rest

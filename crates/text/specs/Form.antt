@@ -6,7 +6,8 @@ use mathlib.Core.Path.{_≡_}
 use mathlib.Core.Bool.{cond}
 use mathlib.Core.List.{List, [], _∷_, _++_}
 use lib.Dec.{eqb}
-use lib.ListN.{length, take, drop}
+use lib.ListN.{length, drop}
+use Rattle.rules.specs.Lists.{over}
 use Rattle.text.specs.declared.Number.{Number}
 use Rattle.text.specs.declared.Row.{Row}
 use Rattle.text.specs.declared.Passed.{Passed}
@@ -44,10 +45,12 @@ unfoldable pub column : (Row → ℕ) → ℕ → List ℕ → List ℕ
 column f zero l = []
 column f (suc m) l = f (row l) ∷ column f m (drop (row l .used) l)
 
--- three lists begin with the numbers of the m rows from here
-abbrev pub RowsAre : ℕ → List ℕ → List ℕ → List ℕ → List ℕ → Type 0
-RowsAre m l a b s =
-    (take m a ≡ column (λ w. w .first) m l) × (take m b ≡ column (λ w. w .second) m l) × (take m s ≡ column (λ w. w .signals) m l)
+-- the lists a′, b′ and s′ begin with the numbers of the m rows from here, and are else as a, b and s were
+abbrev pub RowsAre : ℕ → List ℕ → List ℕ → List ℕ → List ℕ → List ℕ → List ℕ → List ℕ → Type 0
+RowsAre m l a b s a′ b′ s′ =
+    (a′ ≡ over (column (λ w. w .first) m l) a)
+    × (b′ ≡ over (column (λ w. w .second) m l) b)
+    × (s′ ≡ over (column (λ w. w .signals) m l) s)
 
 -- "then end=plant and nothing more": the text line that is not as expected, k being the number of the one that should be end=plant, or 0
 unfoldable pub endFault : List ℕ → ℕ → ℕ

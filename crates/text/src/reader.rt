@@ -51,7 +51,8 @@ fn rows_here<'t, 'a, 'b, 's>(
         (r .at ≤ length (now (r .text))) × (m ≤ 1024)
         × (length (now a) ≡ 1024) × (length (now b) ≡ 1024) × (length (now s) ≡ 1024) ⌝ }
     ensures { λ _. ⌜
-        RowsAre m (drop (r .entry .at) (now (r .entry .text))) (now (a .exit)) (now (b .exit)) (now (s .exit)) ⌝ }
+        RowsAre m (drop (r .entry .at) (now (r .entry .text)))
+        (now (a .entry)) (now (b .entry)) (now (s .entry)) (now (a .exit)) (now (b .exit)) (now (s .exit)) ⌝ }
 {
     whole::keep_rows(r.text, r.at, m, a, b, s)
 }
@@ -76,7 +77,8 @@ pub(crate) fn rows_of(
         (used ≤ length (now text)) × (m ≤ 1024)
         × (length (now a) ≡ 1024) × (length (now b) ≡ 1024) × (length (now s) ≡ 1024) ⌝ }
     ensures { λ _. ⌜
-        RowsAre m (drop used (now (text .entry))) (now (a .exit)) (now (b .exit)) (now (s .exit)) ⌝ }
+        RowsAre m (drop used (now (text .entry)))
+        (now (a .entry)) (now (b .entry)) (now (s .entry)) (now (a .exit)) (now (b .exit)) (now (s .exit)) ⌝ }
 {
     rows_here(moved(new(text), used), m, a, b, s)
 }

@@ -104,7 +104,8 @@ pub(crate) fn keep_rows(
         (at ≤ length (now text)) × (m ≤ 1024)
         × (length (now a) ≡ 1024) × (length (now b) ≡ 1024) × (length (now s) ≡ 1024) ⌝ }
     ensures { λ _. ⌜
-        RowsAre m (drop at (now (text .entry))) (now (a .exit)) (now (b .exit)) (now (s .exit)) ⌝ }
+        RowsAre m (drop at (now (text .entry)))
+        (now (a .entry)) (now (b .entry)) (now (s .entry)) (now (a .exit)) (now (b .exit)) (now (s .exit)) ⌝ }
 {
     let mut place = at;
     let mut i = 0;

@@ -9,6 +9,7 @@ use Rattle.rules.specs.Refusals.{done}
 use Rattle.text.specs.Form.{form}
 use Rattle.text.specs.Reading.{headFault, noRoom, valuesOf}
 use Rattle.text.proofs.Forms.{form-within}
+use Rattle.text.proofs.Lists.{column-front}
 use Rattle.text.proofs.Judged.{Known, head-few, head-is-done, known-length, front-fits, room-first, room-second, room-third, read-long, read-head, read-wrong, read-no-room, read-done}
 use Rattle.text.proofs.read.read_plant.Statement.{statement}
 use Rattle.text.proofs.read.read_plant.Tie as tie
@@ -44,9 +45,9 @@ known c =
       short = at-form-of .before .if1 .left;
       is-form = at-form-of .form-of .ensures;
       head = head (c .before .before .before .before);
-      firsts = rw (sym (at-form-of .form-of .ensures)) (c .rows-of .ensures .0);
-      seconds = rw (sym (at-form-of .form-of .ensures)) (c .rows-of .ensures .1);
-      signals = rw (sym (at-form-of .form-of .ensures)) (c .rows-of .ensures .2);
+      firsts = rw (sym (at-form-of .form-of .ensures)) (column-front (λ w. w .first) _ _ _ (c .rows-of .ensures .0));
+      seconds = rw (sym (at-form-of .form-of .ensures)) (column-front (λ w. w .second) _ _ _ (c .rows-of .ensures .1));
+      signals = rw (sym (at-form-of .form-of .ensures)) (column-front (λ w. w .signals) _ _ _ (c .rows-of .ensures .2));
     }
 
 -- after the test of room

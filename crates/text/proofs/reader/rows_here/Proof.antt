@@ -77,12 +77,9 @@ stayed = (
   ),
 )
 
--- what is asked of the values passed, and what the callee and the function both say of the last lists
+-- what is asked of the values passed
 abbrev Asked : Reader → ℕ → List ℕ → List ℕ → List ℕ → Type 0
 Asked d m a b s = (d .at ≤ length (now (d .text))) × (m ≤ 1024) × (length a ≡ 1024) × (length b ≡ 1024) × (length s ≡ 1024)
-
-abbrev Told : Reader → ℕ → List ℕ → List ℕ → List ℕ → Type 0
-Told d m a b s = RowsAre m (after (d .at) (now (d .text))) a b s
 
 module _ {M : Type 1} (𝓤 : URA M) (H : Heap 𝓤) (A : Atoms 𝓤) (mem : Memory → SProp 𝓤) (run : Routine → Fun 𝓤) where
   -- the contract that the proof cites
@@ -161,7 +158,11 @@ module _ {M : Type 1} (𝓤 : URA M) (H : Heap 𝓤) (A : Atoms 𝓤) (W : Given
   abbrev Last : Type 0
   Last = Unit {0} × (Unit {0} × (Unit {0} × (List ℕ × (List ℕ × (List ℕ × Unit {0})))))
 
-  exits : (zs : Last) → Told d m (zs .1 .1 .1 .0) (zs .1 .1 .1 .1 .0) (zs .1 .1 .1 .1 .1 .0) → ent 𝓤 (⋆ 𝓤 H A (raw Alive ∷ ‵ (lasts keep-rows.ended κs args′ zs) ∷ ‵ Own ∷ [])) (Post vunit)
+  -- what the callee and the function both say of them
+  abbrev Told : Last → Type 0
+  Told zs = RowsAre m (after (d .at) (now (d .text))) (xa .now) (xb .now) (xs .now) (zs .1 .1 .1 .0) (zs .1 .1 .1 .1 .0) (zs .1 .1 .1 .1 .1 .0)
+
+  exits : (zs : Last) → Told zs → ent 𝓤 (⋆ 𝓤 H A (raw Alive ∷ ‵ (lasts keep-rows.ended κs args′ zs) ∷ ‵ Own ∷ [])) (Post vunit)
   exits zs e =
       qed W (raw Alive ∷ ‵ (lasts keep-rows.ended κs args′ zs) ∷ ‵ Own ∷ []) ∵
       suffices ! _ (ends-at 𝓤 H A here.ended stayed (here.clauses 𝓤 H A mem run) W ((κs, qs, tt, args, vals), tt) vunit tt (tt, (tt, zs .1 .1 .1)) (tt, (tt, (tt, (tt, (tt, tt)))))) $ says ! e $ frame ! $
@@ -185,8 +186,8 @@ module _ {M : Type 1} (𝓤 : URA M) (H : Heap 𝓤) (A : Atoms 𝓤) (W : Given
         (and-then ! (load ! (from ! (stop !)) (look ! 10 refl)) (and-then ! (load ! (from ! (stop !)) (look ! 8 refl)) (and-then ! (load ! (from ! (stop !)) (look ! 20 refl)) (and-then ! (load ! (from ! (stop !)) (look ! 6 refl)) (and-then ! (load ! (from ! (stop !)) (look ! 4 refl)) (and-then ! (load ! (from ! (stop !)) (look ! 2 refl)) (no-more !))))))) (λ u.
         use1 W (later (some (λ (r : Unit {0}). (raw Alive ⊛ ‵ (unit .own r (u ∷ []))) ⊛ raw (ensured 𝓤 H A keep-rows.ended (keep-rows.clauses 𝓤 H A mem run) κs args′ tt r)))) (id⊢ 𝓤 _) $ await ! tt $ pick ! (λ r.
         -- what `keep_rows` ensures, at some last lists
-        split ! $ move ! (1 ∷ []) $ use1 W (some (λ (zs : Last). ‵ (lasts keep-rows.ended κs args′ zs) ⊛ raw (fact 𝓤 (Told d m (zs .1 .1 .1 .0) (zs .1 .1 .1 .1 .0) (zs .1 .1 .1 .1 .1 .0))))) (id⊢ 𝓤 _) $ pick ! (λ zs.
-        split ! $ move ! (1 ∷ []) $ heard ! (Told d m (zs .1 .1 .1 .0) (zs .1 .1 .1 .1 .0) (zs .1 .1 .1 .1 .1 .0)) (λ e. move ! (1 ∷ []) $ split ! $ move ! (1 ∷ []) $ feqL ! (λ is.
+        split ! $ move ! (1 ∷ []) $ use1 W (some (λ (zs : Last). ‵ (lasts keep-rows.ended κs args′ zs) ⊛ raw (fact 𝓤 (Told zs)))) (id⊢ 𝓤 _) $ pick ! (λ zs.
+        split ! $ move ! (1 ∷ []) $ heard ! (Told zs) (λ e. move ! (1 ∷ []) $ split ! $ move ! (1 ∷ []) $ feqL ! (λ is.
         -- [the tokens; the last lists; what the struct owns; _11; …; room for _6; …; room for _0; …]
         land ! (from ! (stop !)) (init ! 13 refl (subst (λ (y : Val). Holds (hasTy tyUnit y) × WT y) (sym (ap only is)) (tt, tt))) $
         assigns ! (of-opd ! (unit-lit !)) (from ! (stop !)) (init ! 25 refl (tt, tt)) $

@@ -211,7 +211,7 @@ module _ {M : Type 1} (𝓤 : URA M) (H : Heap 𝓤) (A : Atoms 𝓤) (W : Given
   Last = Unit {0} × (Unit {0} × (List ℕ × (List ℕ × (List ℕ × Unit {0}))))
 
   abbrev Told : Last → Type 0
-  Told zs = RowsAre m (after k (now s)) (zs .1 .1 .0) (zs .1 .1 .1 .0) (zs .1 .1 .1 .1 .0)
+  Told zs = RowsAre m (after k (now s)) (xa .now) (xb .now) (xs .now) (zs .1 .1 .0) (zs .1 .1 .1 .0) (zs .1 .1 .1 .1 .0)
 
   exits : (zs : Last) → Told zs → ent 𝓤 (⋆ 𝓤 H A (raw Alive ∷ ‵ (lasts here.ended κs args′ zs) ∷ ‵ Own ∷ [])) (Post vunit)
   exits zs e =

@@ -9,7 +9,7 @@ use Rattle.text.proofs.whole.keep_rows.Statement.{statement}
 use Rattle.text.proofs.whole.keep_rows.Tie as tie
 
 abbrev Inv-loop : tie.InvT-loop
-Inv-loop text at m a₀ b₀ s₀ place₀ i₀ a b s place i = (i ≤ m) × (place ≤ length text) × Kept (λ w. w .first) text at m a place i × Kept (λ w. w .second) text at m b place i × Kept (λ w. w .signals) text at m s place i
+Inv-loop text at m a₀ b₀ s₀ place₀ i₀ a b s place i = (i ≤ m) × (place ≤ length text) × Kept (λ w. w .first) text at m a₀ a place i × Kept (λ w. w .second) text at m b₀ b place i × Kept (λ w. w .signals) text at m s₀ s place i
 
 abbrev μ-loop : tie.MeasureT-loop
 μ-loop text at m a₀ b₀ s₀ place₀ i₀ a b s place i = m - i
