@@ -30,7 +30,7 @@ pub fn lists(list: &[usize; 64], expected: &[u8]) -> Line {
     let mut firsts = [0; 1025];
     let mut seconds = [0; 1025];
     let mut signals = [0; 1025];
-    plants::fill(128, 9, 1, &mut firsts, &mut seconds, &mut signals);
+    plants::fill(128, 9, 1, 0, &mut firsts, &mut seconds, &mut signals);
     signals[1023] = or_one(row::entry(list, 4));
     let r = check_plant(
         row::entry(list, 3),

@@ -51,6 +51,7 @@ pub fn made(list: &[usize; 64], expected: &[u8]) -> Line {
         n,
         row::entry(list, 3),
         row::entry(list, 8),
+        0,
         &mut firsts,
         &mut seconds,
         &mut signals,

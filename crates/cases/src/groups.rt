@@ -48,6 +48,7 @@ pub fn made(list: &[usize; 64], expected: &[u8]) -> Line {
         n,
         row::entry(list, 2),
         row::entry(list, 7),
+        0,
         &mut firsts,
         &mut seconds,
         &mut signals,

@@ -3,6 +3,7 @@
 mod checks;
 mod communities;
 mod groups;
+mod levels;
 mod plants;
 mod print;
 mod rates;
@@ -33,6 +34,29 @@ fn text_answer(case: &[u8], list: &[usize; 64], count: usize, expected: &[u8]) -
     print::unknown()
 }
 
+// The answer to a case on levels and joining rates, or a later one.
+fn level_answer(case: &[u8], list: &[usize; 64], count: usize, expected: &[u8]) -> Line {
+    if row::starts(case, b"hierarchy") {
+        return levels::plant(list, count, expected);
+    }
+    if row::starts(case, b"large hierarchy") {
+        return levels::made(list, expected);
+    }
+    if row::starts(case, b"text hierarchy") {
+        return levels::told(case, list, expected);
+    }
+    if row::starts(case, b"row") {
+        return levels::shown(list, count, expected);
+    }
+    if row::starts(case, b"joining") {
+        return levels::joining(list, count, expected);
+    }
+    if row::starts(case, b"large joining") {
+        return levels::joining_made(list, expected);
+    }
+    text_answer(case, list, count, expected)
+}
+
 // The answer to a case on groups, or a later one.
 fn group_answer(case: &[u8], list: &[usize; 64], count: usize, expected: &[u8]) -> Line {
     if row::starts(case, b"groups") {
@@ -41,7 +65,7 @@ fn group_answer(case: &[u8], list: &[usize; 64], count: usize, expected: &[u8]) 
     if row::starts(case, b"large groups") {
         return groups::made(list, expected);
     }
-    text_answer(case, list, count, expected)
+    level_answer(case, list, count, expected)
 }
 
 // The answer to a case on communities, or a later one.
@@ -105,7 +129,7 @@ fn run_all(table: &[u8]) -> Tally {
 }
 
 fn main() {
-    let mut space = io::large_buffer();
+    let mut space = [0; 131072];
     let k = io::read_full(STDIN_FILENO, &mut space);
     print::total(run_all(&space[..k]));
 }

@@ -12,7 +12,7 @@ fn above(v: usize) -> usize {
 }
 
 // One less, of a number that is not 0.
-fn below(v: usize) -> usize {
+pub fn below(v: usize) -> usize {
     if 0 < v { v - 1 } else { v }
 }
 
@@ -50,22 +50,34 @@ fn put(list: &mut [usize], i: usize, x: usize) {
     }
 }
 
-// Lines on n devices in rising order, until the lists are full, all with the same signals: from each device to those at most `reach` above it, or, for a reach of 0, round a ring.
+// The signals of the next line: less by a number, as long as some are left.
+fn next_signals(carried: usize, fall: usize) -> usize {
+    if fall < carried {
+        carried - fall
+    } else {
+        carried
+    }
+}
+
+// Lines on n devices in rising order, until the lists are full: from each device to those at most `reach` above it, or, for a reach of 0, round a ring. The first line carries so many signals, and each next one less by `fall`.
 pub fn fill(
     n: usize,
     reach: usize,
     carried: usize,
+    fall: usize,
     firsts: &mut [usize],
     seconds: &mut [usize],
     signals: &mut [usize],
 ) {
     let mut e = Ends { a: 0, b: 1 };
+    let mut s = carried;
     let mut i = 0;
     while i < 1025 {
         put(firsts, i, e.a);
         put(seconds, i, e.b);
-        put(signals, i, carried);
+        put(signals, i, s);
         e = next_line(n, reach, e);
+        s = next_signals(s, fall);
         i += 1;
     }
 }

@@ -58,7 +58,7 @@ pub fn refusal(expected: &[u8], number: usize, place: usize) -> Line {
 }
 
 // An entry of a list: a comma stands before each but the first.
-fn entry(line: Line, expected: &[u8], i: usize, x: usize) -> Line {
+pub fn entry(line: Line, expected: &[u8], i: usize, x: usize) -> Line {
     if i == 0 {
         return value(line, expected, b"", x);
     }

@@ -26,7 +26,7 @@ fn put(bytes: &mut [u8], i: usize, byte: u8) {
 }
 
 // Puts what a row stands for into bytes, from a place on.
-fn spell(case: &[u8], bytes: &mut [u8], from: usize) {
+pub fn spell(case: &[u8], bytes: &mut [u8], from: usize) {
     let mut i = 0;
     while i < case.len() {
         put(bytes, std::num::wrapping_add_usize(from, i), meant(case[i]));
@@ -122,6 +122,7 @@ pub fn full(list: &[usize; 64], expected: &[u8]) -> Line {
         n,
         row::entry(list, 0),
         row::entry(list, 3),
+        0,
         &mut firsts,
         &mut seconds,
         &mut signals,
@@ -143,7 +144,7 @@ pub fn surplus(case: &[u8], expected: &[u8]) -> Line {
     let mut firsts = [0; 1024];
     let mut seconds = [0; 1024];
     let mut signals = [0; 1024];
-    plants::fill(128, 9, 1, &mut firsts, &mut seconds, &mut signals);
+    plants::fill(128, 9, 1, 0, &mut firsts, &mut seconds, &mut signals);
     let mut bytes = [0; 32768];
     let w = write_plant(128, &firsts, &seconds, &signals, &mut bytes);
     let stated = b"plant=1|devices=128|lines=";

@@ -2,27 +2,29 @@
 -- Assumes nothing.
 use Prim.Native.Nat.{ℕ, zero, suc, _+_, _≤_, _<_, zero-le}
 use mathlib.Core.Path.{_≡_, refl, sym, ap, subst, _∙_}
-use mathlib.Core.Bool.{Bool, true, false, not, cond}
+use mathlib.Core.Bool.{Bool, true, false, cond}
 use mathlib.Core.List.{List, [], _∷_}
 use native.Mathlib.Nat.{le-antisymm}
 use native.Mathlib.Numerals.{add-one}
 use native.Mathlib.Omega.{arith}
 use borrow.Author.Tests.{eq-eqb, ne-eqb, le-leb, lt-leb, le-ltb, lt-ltb}
-use lib.Dec.{leb, ltb, eqb, lit≤}
+use lib.Dec.{eqb, lit≤}
 use lib.ListN.{length, getD, replicate}
 use Rattle.rules.specs.declared.Refusal.{Refusal}
-use Rattle.rules.specs.Plant.{Plant, plantOf, Sound}
-use Rattle.rules.specs.Cut.{Devices, Inside, Agree, size, out}
+use Rattle.rules.specs.Plant.{Plant, plantOf}
+use Rattle.rules.specs.Accepted.{Sound, Accepted}
+use Rattle.rules.specs.Cut.{Devices, size, out}
+use Rattle.rules.specs.Sets.{Agree}
 use Rattle.rules.specs.Community.{community, communityIn}
 use Rattle.rules.specs.Groups.{table}
 use Rattle.rules.specs.Sweep.{sweep}
 use Rattle.rules.specs.Rates.{rateOk}
-use Rattle.rules.specs.Refusals.{done, cause, orElse, firstOf, rateFault, deviceFault, roomFault, afterPlant, about, nothing, plantSays, plantFault, Accepted}
+use Rattle.rules.specs.Refusals.{done, cause, orElse, firstOf, rateFault, deviceFault, roomFault, afterPlant, about, nothing, plantSays, plantFault}
 use Rattle.rules.proofs.RefusalLaws.{done-next, call-is, call-plant, call-rest, accepted-sound}
 use Rattle.rules.proofs.Communities.{fence-off}
 use Rattle.rules.proofs.Sweep.{sweep-takes, sweep-passes, sweep-keeps}
 use Rattle.cut.specs.declared.community.Answer.{Answer}
-use Rattle.cut.specs.Search.{sum}
+use Rattle.rules.specs.Numbers.{sum}
 use Rattle.rules.specs.Lists.{over}
 use Rattle.cut.specs.Calls.{marksOf, communityFault, communityAnswer, communityMarks, fenceOf, wantedIn, ownersFault, ownersOf, ownersAfter}
 use Rattle.cut.proofs.CheckLaws.{at}

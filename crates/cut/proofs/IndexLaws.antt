@@ -7,13 +7,11 @@
 -- Assumes nothing.
 use Prim.Native.Nat.{ℕ, _+_, _≤_, _<_}
 use mathlib.Core.Path.{_≡_, sym}
-use mathlib.Core.Bool.{true, false, or-true}
+use mathlib.Core.Bool.{true, false}
 use mathlib.Core.List.{List}
 use native.Mathlib.Decide.{ℕ-discrete}
 use native.Mathlib.Omega.{arith}
 use borrow.Author.Count.{below-more}
-use borrow.Author.Tests.{eq-eqb, ne-eqb, eqb-true}
-use lib.Dec.{eqb}
 use lib.ListN.{length, getD, set, length-set}
 use lib.Seq.{getD-set-same, getD-set-other}
 use Rattle.cut.proofs.EndLaws.{touches-first, touches-second, touches-neither, touches-other}

@@ -7,21 +7,21 @@
 --     Narrow, narrow-start, -step, -end    the least spare on the way, found from its end back to place 0
 --     Going, going-start, -step, -end      what has gone over the lines of the way, from its end back to place 0
 -- Assumes nothing.
-use Prim.Native.Nat.{ℕ, zero, suc, _+_, _-_, _≤_, _<_}
+use Prim.Native.Nat.{ℕ, _+_, _-_, _≤_, _<_}
 use mathlib.Core.Path.{_≡_, refl, sym, ap, _∙_}
 use mathlib.Core.Logic.{_⊎_, inl, inr, ⊎-elim}
 use mathlib.Core.Bool.{Bool, true, false, cond}
 use mathlib.Core.List.{List}
-use native.Mathlib.Nat.{lt-suc-self, le-step}
 use native.Mathlib.Decide.{ℕ-discrete}
 use native.Mathlib.Omega.{arith}
 use borrow.Author.Tests.{eq-eqb, ne-eqb}
 use lib.Dec.{eqb}
 use lib.ListN.{length, getD}
 use lib.Seq.{getD-set-same, getD-set-other}
-use Rattle.cut.proofs.SumLaws.{sum-change}
+use Rattle.rules.specs.Numbers.{sum}
+use Rattle.rules.proofs.SumLaws.{sum-change}
 use Rattle.cut.proofs.EndLaws.{touches-other, far-first, far-second}
-use Rattle.cut.specs.Search.{sum, passing, linesLeave, spareFrom, farEnd, touches, Way, Clear, start, onward, forthAfter, backAfter, Sent}
+use Rattle.cut.specs.Search.{passing, linesLeave, spareFrom, farEnd, touches, Way, Clear, start, onward, forthAfter, backAfter, Sent}
 use Rattle.rules.specs.Cut.{Devices}
 
 -- of two devices that a line touches, the far ends are the same, or the second is the far end of the first

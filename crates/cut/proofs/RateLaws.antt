@@ -1,13 +1,10 @@
 -- Rates: the common divisor that a reduction finds, that the result is in lowest terms, and that a reduction's contract determines its answer.
 -- Assumes nothing.
-use Prim.Native.Nat.{ℕ, zero, suc, _+_, _*_, _/_, _%_, _∣_, _≤_, _<_}
+use Prim.Native.Nat.{ℕ, _*_, _/_, _%_, _∣_, _≤_, _<_}
 use mathlib.Core.Path.{_≡_, refl, sym, ap, subst, _∙_}
-use mathlib.Core.Logic.{_↔_}
-use mathlib.Core.Bool.{Bool, true, false, _&&_, cond, true≢false}
-use native.Mathlib.Nat.{le-suc, mul-le-mul, not-suc-le-zero, zero-lt-suc, mul-assoc, mul-comm, mul-left-comm, mul-right-comm, add-mul, one-mul, mod-lt, div-add-mod, eq-of-mul-eq-mul-left, eq-of-mul-eq-mul-right, mul-div-cancel', one-dvd, dvd-zero, dvd-refl, dvd-mod-iff, dvd-mul-left, dvd-mul-right, dvd-antisymm, dvd-of-mul-dvd-mul-right, dvd-add-iff-right, mul-dvd-mul-right, eq-one-of-dvd-one}
+use mathlib.Core.Bool.{Bool, true, false}
+use native.Mathlib.Nat.{mul-le-mul, mul-assoc, mul-comm, mul-left-comm, one-mul, mul-div-cancel', dvd-zero, dvd-refl, dvd-mod-iff, dvd-of-mul-dvd-mul-right, mul-dvd-mul-right, eq-one-of-dvd-one}
 use native.Mathlib.Omega.{arith}
-use borrow.Author.Tests.{le-leb, lt-leb, leb-true}
-use lib.Dec.{leb}
 use Rattle.rules.proofs.RangeLaws.{range-in}
 use Rattle.rules.proofs.LowestLaws.{lowest-first, lowest-second}
 use Rattle.rules.specs.Rates.{rateOk, Same, Lowest}

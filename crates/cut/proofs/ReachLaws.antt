@@ -1,6 +1,6 @@
 -- A search on plain lists: how its tree begins and grows by a device, and how a scan of its devices goes on by a line, by a device, and over the lines that are not the device's.
 -- Assumes nothing.
-use Prim.Native.Nat.{ℕ, zero, suc, _+_, _-_, _≤_, _<_}
+use Prim.Native.Nat.{ℕ, _+_, _-_, _≤_, _<_}
 use mathlib.Core.Path.{_≡_, refl, sym, _∙_}
 use mathlib.Core.Logic.{_⊎_, inl, inr, ⊎-elim}
 use mathlib.Core.Bool.{Bool, true, false, cond, false≢true}
@@ -11,8 +11,9 @@ use borrow.Author.Tests.{eq-eqb, ne-eqb}
 use lib.Dec.{eqb}
 use lib.ListN.{length, getD, set, replicate, length-replicate, getD-replicate}
 use lib.Seq.{getD-set-same, getD-set-other}
-use Rattle.cut.proofs.SumLaws.{sum-most, sum-change, sum-one}
-use Rattle.cut.specs.Search.{sum, spareFrom, farEnd, touches, Laid, Before, Tree, Scan, Found}
+use Rattle.rules.specs.Numbers.{sum}
+use Rattle.rules.proofs.SumLaws.{sum-most, sum-change, sum-one}
+use Rattle.cut.specs.Search.{spareFrom, farEnd, touches, Laid, Before, Tree, Scan, Found}
 
 -- the two sides of a question on numbers
 same-or-not : (i j : ℕ) → (i ≡ j) ⊎ (i ≡ j → ⊥)

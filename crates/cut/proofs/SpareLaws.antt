@@ -1,5 +1,4 @@
 -- The cut search in numbers: each set that holds the device inside its fence costs what has been sent and what can still leave it.
---     sum-..                              laws of sums; out and size as sums
 --     spares-start, spares-sent-..          so it is at the start, and so it stays when some is sent
 --     spares-limit, spare-most, cost-most   how large the numbers get
 --     marks-.., table-marks               size, out and list of a set that is given by marks
@@ -7,50 +6,33 @@
 --     spares-done, spares-community         where nothing more can be sent, the marked devices are the community
 -- Assumes nothing.
 use Prim.Native.Nat.{ℕ, zero, suc, _+_, _-_, _*_, _≤_, _<_, zero-le, suc-le-suc}
-use mathlib.Core.Path.{_≡_, refl, sym, ap, ap₂, _∙_}
+use mathlib.Core.Path.{_≡_, refl, sym, ap, _∙_}
 use mathlib.Core.Logic.{_⊎_, inl, inr}
 use mathlib.Core.Bool.{Bool, true, false, _||_, cond, false≢true}
-use mathlib.Core.List.{List, [], _∷_}
-use native.Mathlib.Nat.{le-refl, le-trans, le-step, lt-suc-self, le-suc-iff, suc-inj, mul-zero, mul-add, suc-mul, mul-one, mul-le-mul}
+use mathlib.Core.List.{List}
+use native.Mathlib.Nat.{le-refl, le-trans, lt-suc-self, mul-zero, mul-one, mul-le-mul}
 use native.Mathlib.Omega.{arith}
-use borrow.Author.Tests.{eqb-true, eq-eqb, ne-eqb}
+use borrow.Author.Tests.{eqb-true, eq-eqb}
 use lib.Dec.{eqb}
 use lib.ListN.{length, getD, set}
 use lib.Seq.{ext-getD, getD-set-same, getD-set-other}
-use Rattle.rules.specs.Plant.{Plant, linesOf, plantOf, Sound}
-use Rattle.rules.specs.Cut.{Devices, Inside, crossing, out, sizeAt, sizeBelow, size, cost}
-use Rattle.rules.specs.Community.{communityIn, IsCommunityIn}
+use Rattle.rules.specs.Plant.{linesOf, plantOf}
+use Rattle.rules.specs.Accepted.{Sound}
+use Rattle.rules.specs.Cut.{Devices, crossing, out, sizeAt, size, cost}
+use Rattle.rules.specs.Sets.{Inside}
+use Rattle.rules.specs.Community.{communityIn}
+use Rattle.rules.specs.CommunityIs.{IsCommunityIn}
 use Rattle.rules.specs.Groups.{table}
+use Rattle.rules.specs.Numbers.{sum}
+use Rattle.rules.proofs.SetLaws.{cond-most}
+use Rattle.rules.proofs.PlantLaws.{crossing-most}
 use Rattle.rules.proofs.Sums.{size-inside}
+use Rattle.rules.proofs.SumLaws.{sum-agree, sum-most, sum-change, sum-zero, zero-sum, sum-scale, size-one, out-sum, size-sum}
 use Rattle.rules.proofs.Communities.{communityIn-only}
 use Rattle.rules.proofs.LabelLaws.{length-table, getD-table}
 use Rattle.cut.specs.Calls.{fenceOf}
-use Rattle.cut.proofs.SumLaws.{sum-agree, sum-most, sum-change, sum-zero, zero-sum, sum-scale, sum-front}
 use Rattle.cut.proofs.EndLaws.{touches-first, touches-second, far-first, far-second, spare-first, spare-second}
-use Rattle.cut.specs.Search.{sum, passing, linesLeave, drainsLeave, spareFrom, farEnd, touches, Laid, Way, Scan, Sent, Spares}
-
--- out and size as sums
-pub size-one : (g : Plant) (v : ℕ) → sizeAt g v ≡ 1
-unfolding sizeAt
-size-one g v = refl
-
-pub out-sum : (xs ys zs : List ℕ) (S : Devices) → length xs ≡ length ys → length ys ≡ length zs
-    → out (linesOf xs ys zs) S ≡ sum (length xs) (λ l. crossing (getD zs l 0) (S (getD xs l 0)) (S (getD ys l 0)))
-unfolding out linesOf sum
-out-sum [] ys zs S e e′ = refl
-out-sum (a ∷ xs) [] zs S e e′ = absurd (omega arith)
-out-sum (a ∷ xs) (b ∷ ys) [] S e e′ = absurd (omega arith)
-out-sum (a ∷ xs) (b ∷ ys) (c ∷ zs) S e e′ =
-    rw (out-sum xs ys zs S (suc-inj e) (suc-inj e′)) (sym (sum-front (length xs) (λ l. crossing (getD (c ∷ zs) l 0) (S (getD (a ∷ xs) l 0)) (S (getD (b ∷ ys) l 0)))))
-
-pub below-sum : (g : Plant) (k : ℕ) (S : Devices) → sizeBelow g k S ≡ sum k (λ v. cond (S v) (sizeAt g v) 0)
-unfolding sizeBelow sum
-below-sum g zero S = refl
-below-sum g (suc k) S = rw (below-sum g k S)
-
-pub size-sum : (n : ℕ) (xs ys zs : List ℕ) (S : Devices) → size (plantOf n xs ys zs) S ≡ sum n (λ v. cond (S v) (sizeAt (plantOf n xs ys zs) v) 0)
-unfolding size plantOf
-size-sum n xs ys zs S = below-sum (plantOf n xs ys zs) n S
+use Rattle.cut.specs.Search.{passing, linesLeave, drainsLeave, spareFrom, farEnd, touches, Laid, Way, Scan, Sent, Spares}
 
 -- before anything is sent each way of a line has q times its signals, and each device inside the fence has p
 start-line : (c z : ℕ) (a b : Bool) → passing a b (c * z) (c * z) ≡ c * crossing z a b
@@ -150,17 +132,6 @@ spares-limit {fence = fence} {d = d} spares =
 pub spare-most : {n : ℕ} {xs ys zs : List ℕ} {p q : ℕ} {fence : List ℕ} {d : ℕ} {fs rs ws : List ℕ} {sent : ℕ} (l : ℕ)
     → Spares n xs ys zs p q fence d fs rs ws sent → q ≤ 1000 → l < length xs → getD zs l 0 ≤ 65535 → getD fs l 0 + getD rs l 0 ≤ 131070000
 spare-most l spares h b z = omega (arith, spares .whole l b, mul-le-mul h z)
-
-crossing-most : (s : ℕ) (a b : Bool) → crossing s a b ≤ s
-unfolding crossing
-crossing-most s true true = zero-le
-crossing-most s true false = le-refl s
-crossing-most s false true = le-refl s
-crossing-most s false false = zero-le
-
-cond-most : (b : Bool) (m : ℕ) → cond b m 0 ≤ m
-cond-most true m = le-refl m
-cond-most false m = zero-le
 
 pub cost-most : (n : ℕ) (xs ys zs : List ℕ) (p q : ℕ) (T : Devices) → length xs ≡ length ys → length ys ≡ length zs
     → length xs ≤ 1024 → ((l : ℕ) → l < length xs → getD zs l 0 ≤ 65535) → p ≤ 100000000 → q ≤ 1000 → n ≤ 128

@@ -2,7 +2,7 @@
 -- Assumes nothing.
 use Prim.Native.Nat.{ℕ, _*_}
 use mathlib.Core.Path.{_≡_}
-use mathlib.Core.Bool.{Bool, true, false, _&&_, cond}
+use mathlib.Core.Bool.{true, false, _&&_, cond}
 use lib.Dec.{ltb, eqb}
 use Rattle.rules.specs.Rates.{rateOk, Same, Lowest}
 use Rattle.cut.specs.declared.rate.Compared.{Compared}

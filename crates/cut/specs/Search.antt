@@ -1,7 +1,7 @@
 -- What the functions of the cut search say to each other. No public contract cites this file.
 -- A line l joins the devices `getD xs l 0` and `getD ys l 0`. `getD fs l 0` is what can still go from its first end to its second (forth), `getD rs l 0` the other way (back), and `getD ws v 0` what can still go from device v to the added vertex (its drain).
 -- Assumes nothing.
-use Prim.Native.Nat.{ℕ, zero, suc, _+_, _-_, _*_, _≤_, _<_}
+use Prim.Native.Nat.{ℕ, _+_, _-_, _*_, _≤_, _<_}
 use mathlib.Core.Path.{_≡_}
 use mathlib.Core.Logic.{_⊎_}
 use mathlib.Core.Bool.{Bool, true, false, _||_, cond}
@@ -9,13 +9,10 @@ use mathlib.Core.List.{List}
 use lib.Dec.{eqb}
 use lib.ListN.{length, getD, set}
 use Rattle.rules.specs.Plant.{plantOf}
-use Rattle.rules.specs.Cut.{Devices, Inside, cost}
+use Rattle.rules.specs.Cut.{Devices, cost}
+use Rattle.rules.specs.Sets.{Inside}
+use Rattle.rules.specs.Numbers.{sum}
 use Rattle.cut.specs.Calls.{fenceOf}
-
--- f 0 + f 1 + .. + f (k − 1)
-unfoldable pub sum : ℕ → (ℕ → ℕ) → ℕ
-sum zero f = 0
-sum (suc k) f = sum k f + f k
 
 -- what can leave a set over one line: its forth where only the first end is in the set, its back where only the second is
 unfoldable pub passing : Bool → Bool → ℕ → ℕ → ℕ

@@ -1,6 +1,6 @@
 // A rate p/q: its least and its largest, comparison by cross products, and reduction to lowest terms.
 ghost use mathlib.Core.Path.{_≡_};
-ghost use Prim.Native.Nat.{_+_, _≤_, _<_};
+ghost use Prim.Native.Nat.{_≤_, _<_};
 ghost use Rattle.rules.specs.Rates.{rateOk};
 ghost use Rattle.cut.specs.RateCalls.{compared, Reduction};
 ghost use Rattle.cut.specs.RateLoop.{Divisor};

@@ -8,14 +8,14 @@ use native.Mathlib.Omega.{arith}
 use lib.ListN.{length, getD, replicate}
 use borrow.Author.Tests.{ne-eqb}
 use Rattle.rules.specs.declared.Refusal.{Refusal}
-use Rattle.rules.specs.Plant.{Plant, plantOf, Sound}
+use Rattle.rules.specs.Plant.{Plant, plantOf}
+use Rattle.rules.specs.Accepted.{Sound}
 use Rattle.rules.specs.Groups.{table, groups, distinct}
 use Rattle.rules.specs.Refusals.{done}
 use Rattle.rules.proofs.RefusalLaws.{accepted-sound}
 use Rattle.rules.specs.Lists.{over}
 use Rattle.cut.specs.Calls.{wantedIn, ownersFault, ownersOf, ownersAfter}
 use Rattle.rules.proofs.RangeLaws.{InRange, range-in}
-use Rattle.grouping.specs.declared.level.Level.{Level}
 use Rattle.grouping.specs.Calls.{groupingFault, groupingAnswer, labelsAfter}
 use Rattle.grouping.specs.Level.{firstWith, IsLevel, Enough, ownsItself, Between}
 use Rattle.grouping.proofs.FaultLaws.{Clear, owners-done, owners-cases, grouping-short, grouping-done}

@@ -7,7 +7,7 @@ use Prim.Native.Nat.{ℕ, _+_, _*_, _≤_, _<_}
 use mathlib.Core.Path.{_≡_, refl, sym, ap, _∙_}
 use mathlib.Core.Bool.{Bool, true, false, cond}
 use mathlib.Core.List.{List}
-use native.Mathlib.Nat.{le-refl, le-trans, le-of-eq, add-zero}
+use native.Mathlib.Nat.{le-trans, le-of-eq, add-zero}
 use native.Mathlib.Numerals.{add-one}
 use native.Mathlib.Decide.{ℕ-discrete}
 use native.Mathlib.Omega.{arith}
@@ -17,11 +17,11 @@ use lib.Seq.{getD-set-same, getD-set-other}
 use borrow.Author.Tests.{eqb-true, eq-eqb, ne-eqb}
 use Rattle.rules.specs.Plant.{Plant, plantOf}
 use Rattle.rules.specs.Cut.{crossing, size, sizeAt}
-use Rattle.rules.specs.Refusals.{Accepted}
+use Rattle.rules.specs.Numbers.{sum}
+use Rattle.rules.specs.Accepted.{Accepted}
+use Rattle.rules.proofs.SetLaws.{cond-most}
 use Rattle.rules.proofs.PlantLaws.{crossing-most}
-use Rattle.cut.specs.Search.{sum}
-use Rattle.cut.proofs.SumLaws.{sum-most}
-use Rattle.cut.proofs.SpareLaws.{out-sum, below-sum}
+use Rattle.rules.proofs.SumLaws.{sum-most, out-sum, below-sum}
 use Rattle.grouping.specs.Stretch.{withLabel, LabelsBelow, SizesOf, OutsOf}
 
 -- x more at place i
@@ -57,13 +57,9 @@ module _ (n : ℕ) (f : ℕ → ℕ → ℕ) where
 abbrev pub sizeOf : List ℕ → ℕ → ℕ → ℕ
 sizeOf labels h v = cond (withLabel labels h v) 1 0
 
-one-most : (b : Bool) → cond b 1 0 ≤ 1
-one-most true = le-refl 1
-one-most false = omega arith
-
 module _ (n : ℕ) (labels : List ℕ) {sizes : List ℕ} {v : ℕ} (t : Tally n (sizeOf labels) sizes v) where
   pub sized-most : (h : ℕ) → h < n → getD sizes h 0 ≤ v
-  sized-most h l = omega (arith, tally-most n (sizeOf labels) t 1 (λ h j b. one-most (withLabel labels h j)) h l)
+  sized-most h l = omega (arith, tally-most n (sizeOf labels) t 1 (λ h j b. cond-most (withLabel labels h j) 1) h l)
 
   pub sized-next : getD labels v 0 < 128 → Tally n (sizeOf labels) (set sizes (getD labels v 0) (getD sizes (getD labels v 0) 0 + 1)) (v + 1)
   unfolding withLabel

@@ -8,9 +8,11 @@ use Prim.Native.Nat.{ℕ, _≤_, _<_}
 use native.Mathlib.Nat.{le-refl}
 use native.Mathlib.Omega.{arith}
 use lib.ListN.{length, getD, replicate, getD-replicate, length-replicate}
-use borrow.Author.Tests.{eqb-true, eq-eqb}
-use Rattle.rules.specs.Plant.{Plant, Sound}
-use Rattle.rules.specs.Cut.{Inside, size}
+use borrow.Author.Tests.{eq-eqb}
+use Rattle.rules.specs.Plant.{Plant}
+use Rattle.rules.specs.Accepted.{Sound}
+use Rattle.rules.specs.Cut.{size}
+use Rattle.rules.specs.Sets.{Inside}
 use Rattle.rules.specs.Community.{community, communityIn}
 use Rattle.rules.specs.Groups.{label, groups, table, distinct}
 use Rattle.rules.specs.Sweep.{sweep}
@@ -19,13 +21,12 @@ use Rattle.rules.proofs.Rates.{coarser}
 use Rattle.rules.proofs.Family.{Family}
 use Rattle.rules.proofs.GroupLaws.{group-holds, group-largest}
 use Rattle.rules.proofs.LabelLaws.{lowest-agree, table-agree, label-same}
-use Rattle.rules.proofs.Sweep.{sweep-owner, sweep-self, sweep-group, sweep-same, sweep-label}
+use Rattle.rules.proofs.Sweep.{sweep-owner, sweep-self, sweep-group, sweep-label}
 use Rattle.rules.proofs.Instance.{family, sweep-agree}
 use Rattle.rules.specs.Lists.{over}
 use Rattle.cut.specs.Calls.{fenceOf, wantedIn, ownersOf}
 use Rattle.rules.proofs.FillLaws.{over-front, over-size}
-use Rattle.grouping.specs.declared.level.Level.{Level}
-use Rattle.grouping.specs.Level.{firstWith, Labelled, Owned, IsLevel, Enough, ownsItself, Between}
+use Rattle.grouping.specs.Level.{firstWith, Owned, IsLevel, Enough, ownsItself, Between}
 
 module _ (g : Plant) (p q : ℕ) where
   abbrev n : ℕ

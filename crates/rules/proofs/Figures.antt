@@ -1,9 +1,8 @@
 -- K1 to K12, proved together: of each row of the table the groups that the definitions give are those that document 01 states.
 -- Assumes nothing.
 use mathlib.Core.Path.{_≡_, refl}
-use mathlib.Core.List.{List, [], _∷_, map}
-use Prim.Native.Nat.{ℕ}
-use Rattle.rules.specs.Plant.{Plant, linesOf, plantOf}
+use mathlib.Core.List.{[], _∷_, map}
+use Rattle.rules.specs.Plant.{linesOf, plantOf}
 use Rattle.rules.specs.Cut.{crossing, out, sizeAt, sizeBelow, size, cost}
 use Rattle.rules.specs.Community.{with, sets, everyone, better, best, community}
 use Rattle.rules.specs.Groups.{larger, largest, groupOf, lowest, table, label, groups}

@@ -14,10 +14,11 @@ use native.Mathlib.Omega.{arith}
 use lib.Dec.{eqb}
 use lib.ListN.{getD}
 use borrow.Author.Tests.{eqb-true, eqb-false, eq-eqb}
-use Rattle.rules.specs.Plant.{Plant, Sound}
-use Rattle.rules.specs.Cut.{Agree}
+use Rattle.rules.specs.Plant.{Plant}
+use Rattle.rules.specs.Accepted.{Sound}
+use Rattle.rules.specs.Sets.{Agree}
 use Rattle.rules.specs.Groups.{groupOf, label, groups, distinct}
-use Rattle.rules.proofs.SetLaws.{same-bool, agree-inside, agree-sym, agree-both, below-suc}
+use Rattle.rules.proofs.SetLaws.{cond-most, same-bool, agree-inside, agree-sym, agree-both, below-suc}
 use Rattle.rules.proofs.LabelLaws.{table-agree, lowest-agree, label-le, label-below, label-label, label-same, groups-at}
 use Rattle.rules.proofs.DistinctLaws.{owns, groups-distinct}
 use Rattle.rules.proofs.Instance.{family, group-within, never-divides}
@@ -139,11 +140,7 @@ owns-some (suc (suc k)) f e h = omega (arith, owns-some (suc k) f e (omega arith
 owns-most : (k : ℕ) (f : ℕ → ℕ) → owns k f ≤ k
 unfolding owns
 owns-most zero f = le-refl 0
-owns-most (suc k) f = omega (arith, owns-most k f, cond-most (eqb (f k) k))
-  where
-    cond-most : (b : Bool) → cond b 1 0 ≤ 1
-    cond-most true = le-refl 1
-    cond-most false = omega arith
+owns-most (suc k) f = omega (arith, owns-most k f, cond-most (eqb (f k) k) 1)
 
 module _ (g : Plant) (p q : ℕ) (s : Sound g) (o : 1 ≤ p) where
   pub some-group : 1 ≤ g .devices → 1 ≤ distinct (groups g p q)

@@ -4,6 +4,8 @@
 --     RefusalLaws   the first fault: 0 exactly for an accepted plant
 --     PlantLaws     an accepted plant: a pair occurs once, all signals together
 --     SetLaws       small laws of tests and sets that the others cite
+--     SumLaws       sums of numbers, and out and size as sums
+--     SumLoop       a loop that adds up
 --     Sums          out, size and cost of two sets together
 --     AddedLaws     the cost is q times the cut of the graph with the added vertex t
 --     Best          the community is the best set that holds its device
@@ -33,6 +35,8 @@ pub mod Figures
 pub mod RefusalLaws
 pub mod SetLaws
 pub mod PlantLaws
+pub mod SumLaws
+pub mod SumLoop
 pub mod Sums
 pub mod AddedLaws
 pub mod Best

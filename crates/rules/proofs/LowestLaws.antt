@@ -1,7 +1,6 @@
 -- A fraction has only one form in lowest terms, and its denominator is no larger than that of any other form. Assumes nothing.
 use Prim.Native.Nat.{ℕ, zero, suc, _+_, _*_, _/_, _%_, _∣_, _≤_, _<_}
-use mathlib.Core.Path.{_≡_, refl, sym, ap, subst, _∙_}
-use mathlib.Core.Logic.{_↔_}
+use mathlib.Core.Path.{_≡_, sym, ap, subst, _∙_}
 use native.Mathlib.Nat.{le-suc, le-refl, not-suc-le-zero, zero-lt-suc, mul-assoc, mul-left-comm, mul-right-comm, add-mul, mod-lt, div-add-mod, eq-of-mul-eq-mul-left, eq-of-mul-eq-mul-right, mul-div-cancel', one-dvd, dvd-zero, dvd-refl, dvd-mod-iff, dvd-mul-left, dvd-mul-right, dvd-antisymm, dvd-add-iff-right, le-of-dvd}
 use native.Mathlib.Omega.{arith}
 use Rattle.rules.specs.Rates.{Same, Lowest}

@@ -3,8 +3,8 @@
 --     signals-most    all signals together are at most 67,107,840
 --     out-total       no set of devices has more signals out than all signals together
 -- Assumes nothing.
-use Prim.Native.Nat.{ℕ, zero, suc, _+_, _*_, _≤_, _<_, zero-le, suc-le-suc}
-use mathlib.Core.Path.{_≡_, refl, sym}
+use Prim.Native.Nat.{ℕ, zero, suc, _*_, _≤_, _<_, zero-le, suc-le-suc}
+use mathlib.Core.Path.{_≡_, sym}
 use mathlib.Core.Bool.{Bool, true, false}
 use mathlib.Core.List.{List, [], _∷_}
 use mathlib.Core.Logic.{⊎-elim}
@@ -13,9 +13,10 @@ use native.Mathlib.Omega.{arith}
 use borrow.Author.Tests.{leb-true, eqb-true}
 use lib.Dec.{eqb}
 use lib.ListN.{length, getD}
-use Rattle.rules.specs.Plant.{Line, linesOf, plantOf, total}
+use Rattle.rules.specs.Plant.{Line, linesOf, plantOf}
+use Rattle.rules.specs.Accepted.{total, Accepted}
 use Rattle.rules.specs.Cut.{Devices, crossing, out}
-use Rattle.rules.specs.Refusals.{rises, Accepted}
+use Rattle.rules.specs.Refusals.{rises}
 use Rattle.rules.proofs.SetLaws.{and-left, and-right, or-cases, below-suc}
 
 -- line i comes before line j: by first end, then second end

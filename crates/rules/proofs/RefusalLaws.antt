@@ -1,19 +1,20 @@
 -- The first fault in the fixed order. A refusal whose number is 0 is `done`, so that number and place 0 go together; a plant is answered 0 exactly if it is accepted; and an accepted plant is sound.
 -- Assumes nothing.
-use Prim.Native.Nat.{ℕ, zero, suc, _+_, _-_, _≤_, _<_, zero-le, suc-le-suc}
+use Prim.Native.Nat.{ℕ, zero, suc, _+_, _≤_, _<_, zero-le, suc-le-suc}
 use mathlib.Core.Path.{_≡_, refl, sym, ap, subst, _∙_}
-use mathlib.Core.Bool.{Bool, true, false, not, _&&_, _||_, cond, true≢false}
+use mathlib.Core.Bool.{Bool, true, false, cond}
 use mathlib.Core.List.{List, [], _∷_, map}
 use mathlib.Core.Logic.{_⊎_, inl, inr}
 use native.Mathlib.Nat.{suc-ne-zero, le-refl, lt-irrefl, eq-or-lt-of-le}
 use native.Mathlib.Omega.{arith}
-use borrow.Author.Tests.{eq-eqb, ne-eqb, le-leb, lt-leb, le-ltb, lt-ltb, eqb-true, eqb-false, leb-false, ltb-false}
-use lib.Dec.{leb, ltb, eqb, eqb·suc-zero}
+use borrow.Author.Tests.{eq-eqb, ne-eqb, lt-leb, le-ltb, eqb-true, eqb-false, leb-false, ltb-false}
+use lib.Dec.{leb, eqb}
 use lib.ListN.{length, getD}
 use Rattle.rules.proofs.SetLaws.{and-left, and-right, or-off-left, or-off-right, not-off}
 use Rattle.rules.specs.declared.Refusal.{Refusal}
-use Rattle.rules.specs.Plant.{Line, Plant, linesOf, plantOf, EndsBelow, Sound}
-use Rattle.rules.specs.Refusals.{done, cause, orElse, firstOf, devicesFault, listsFault, rises, lineFault, linesFrom, linesFault, Kind, ofText, ofDevices, ofLists, ofLines, afterPlant, fixedOrder, inOrder, nothing, about, plantSays, plantFault, Accepted}
+use Rattle.rules.specs.Plant.{linesOf, plantOf}
+use Rattle.rules.specs.Accepted.{EndsBelow, Sound, Accepted}
+use Rattle.rules.specs.Refusals.{done, cause, orElse, firstOf, devicesFault, listsFault, rises, lineFault, linesFrom, linesFault, Kind, ofText, ofDevices, ofLists, ofLines, afterPlant, fixedOrder, inOrder, nothing, about, plantSays, plantFault}
 
 -- number 0 goes with place 0
 pub record Clean (r : Refusal) : Type 0 where

@@ -1,11 +1,12 @@
 -- Small laws that the others cite: of tests, of numbers below a bound, and of Inside and Agree alone.
 -- Assumes nothing.
 use mathlib.Core.Path.{_≡_, refl, sym, _∙_, subst⁻¹}
-use mathlib.Core.Bool.{Bool, true, false, not, _&&_, _||_, true≢false, false≢true}
+use mathlib.Core.Bool.{Bool, true, false, not, _&&_, _||_, cond, true≢false, false≢true}
 use mathlib.Core.Logic.{_⊎_, inl, inr, ⊎-elim}
-use Prim.Native.Nat.{ℕ, suc, _≤_, _<_}
-use native.Mathlib.Nat.{eq-or-lt-of-le, le-of-suc-le-suc}
-use Rattle.rules.specs.Cut.{Devices, Inside, Agree}
+use Prim.Native.Nat.{ℕ, suc, _≤_, _<_, zero-le}
+use native.Mathlib.Nat.{le-refl, eq-or-lt-of-le, le-of-suc-le-suc}
+use Rattle.rules.specs.Cut.{Devices}
+use Rattle.rules.specs.Sets.{Inside, Agree}
 
 pub and-left : (a b : Bool) → (a && b) ≡ true → a ≡ true
 and-left true b e = refl
@@ -54,6 +55,11 @@ agree-sym a i h = sym (a i h)
 
 pub agree-trans : {n : ℕ} {S T U : Devices} → Agree n S T → Agree n T U → Agree n S U
 agree-trans a b i h = a i h ∙ b i h
+
+-- what a test lets count
+pub cond-most : (b : Bool) (m : ℕ) → cond b m 0 ≤ m
+cond-most true m = le-refl m
+cond-most false m = zero-le
 
 -- what holds of each number below k, and of k, holds of each below k + 1
 pub below-suc : (P : ℕ → Type 0) (k : ℕ) → ((e : ℕ) → e < k → P e) → P k → (e : ℕ) → e < suc k → P e

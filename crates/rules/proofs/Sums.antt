@@ -8,12 +8,14 @@ use Prim.Native.Nat.{ℕ, zero, suc, _+_, _*_, _≤_, _<_}
 use mathlib.Core.Path.{_≡_, refl, ap, sym, _∙_, fun-ext}
 use mathlib.Core.Bool.{Bool, true, false, not, _&&_, _||_, cond, false≢true}
 use mathlib.Core.List.{List, [], _∷_}
-use native.Mathlib.Nat.{le-refl, le-step, mul-add, mul-le-mul-left, lt-suc-self, le-suc-iff, suc-inj, eq-zero-or-pos}
+use native.Mathlib.Nat.{le-refl, le-step, mul-add, mul-le-mul-left, lt-suc-self, eq-zero-or-pos}
 use native.Mathlib.Omega.{arith}
 use mathlib.Core.Logic.{_⊎_, inl, inr}
 use Rattle.rules.proofs.SetLaws.{below-suc}
-use Rattle.rules.specs.Plant.{Line, Plant, EndsBelow, Sound}
-use Rattle.rules.specs.Cut.{Devices, crossing, out, sizeAt, sizeBelow, size, cost, Inside, Agree, minus}
+use Rattle.rules.specs.Plant.{Line, Plant}
+use Rattle.rules.specs.Accepted.{EndsBelow, Sound}
+use Rattle.rules.specs.Cut.{Devices, crossing, out, sizeAt, sizeBelow, size, cost}
+use Rattle.rules.specs.Sets.{Inside, Agree, minus}
 
 -- the devices that are in both
 abbrev pub meet : Devices → Devices → Devices

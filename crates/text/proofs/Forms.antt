@@ -123,6 +123,17 @@ module _ (t : List ℕ) (at m : ℕ) {p : Passed} (e : p ≡ passed m (drop at t
   unfolding rowsFault
   rows-short h = sym (rw (ne-eqb (goodRows m (drop at t)) m (λ q. h (rows ∙ q)), sym rows) refl)
 
+-- k bytes after a place of a text: after k bytes of the text from the place on
+module _ (text : List ℕ) (at k : ℕ) where
+  pub after-within : at ≤ length text → k ≤ length (drop at text) → at + k ≤ length text
+  after-within h q = omega (arith, length-drop at text)
+
+  pub field-after : (key stop : List ℕ) {n : Number} → n ≡ field key stop (drop (at + k) text) → n ≡ field key stop (drop k (drop at text))
+  field-after key stop e = e ∙ ap (field key stop) (sym (drop-drop k at text))
+
+  pub rows-after : (m : ℕ) {r : ℕ} → r ≡ rowsFault m (drop (at + k) text) → r ≡ rowsFault m (drop k (drop at text))
+  rows-after m e = e ∙ ap (rowsFault m) (sym (drop-drop k at text))
+
 -- the form of a text, by its first three text lines: g whether plant=1 is there, n and m the two fields, line what the rest says
 module _ (t : List ℕ) {g : Bool} (e : g ≡ begins plantLine t) where
   pub form-no-plant : not g ≡ true → wrongLine 1 ≡ form t

@@ -12,7 +12,8 @@ use lib.ListN.{length, getD, take, drop}
 use borrow.Author.Tests.{lt-ltb, le-ltb}
 use Rattle.rules.specs.declared.Refusal.{Refusal}
 use Rattle.rules.specs.Plant.{plantOf}
-use Rattle.rules.specs.Refusals.{done, cause, orElse, firstOf, roomFault, afterPlant, about, nothing, plantSays, Accepted}
+use Rattle.rules.specs.Refusals.{done, cause, orElse, firstOf, roomFault, afterPlant, about, nothing, plantSays}
+use Rattle.rules.specs.Accepted.{Accepted}
 use Rattle.rules.specs.Lists.{over}
 use Rattle.rules.proofs.RefusalLaws.{done-next, call-is, call-rest, accepted-done, done-accepted}
 use Rattle.grouping.specs.declared.hierarchy.Levels.{Levels}

@@ -3,14 +3,10 @@
 mod lines;
 mod listing;
 pub mod read;
+mod reader;
 pub mod show;
 mod whole;
 pub mod write;
-
-// The place in a text, beside the text itself.
-pub(crate) struct Cursor {
-    pub at: usize,
-}
 
 // What stands at a place, where a number should: whether it is one, its value, and how many bytes it takes.
 pub(crate) struct Number {
@@ -34,7 +30,7 @@ pub(crate) struct Passed {
     pub used: usize,
 }
 
-// The form of a text: the text line that is not as expected, or 0; the stated numbers; where the rows start.
+// The form of a text: the text line that is not as expected, or 0; the stated numbers; how many bytes come before the rows.
 pub(crate) struct Form {
     pub line: usize,
     pub devices: usize,

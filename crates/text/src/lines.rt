@@ -1,5 +1,4 @@
-// Reading at a cursor: a word, a number, a field, a row.
-use crate::Cursor;
+// Reading at a place: a word, a number, a field, a row.
 use crate::Number;
 use crate::Row;
 ghost use mathlib.Core.Path.{_≡_};
@@ -9,11 +8,10 @@ ghost use Rattle.text.specs.Numbers.{run, stated, numberOf, noNumber};
 ghost use Rattle.text.specs.Lines.{begins, field, row, noRow};
 
 // Whether the text goes on with the word.
-pub(crate) fn goes_on(text: &[u8], c: Cursor, word: &[u8]) -> bool
-    requires { ⌜ c .at ≤ length (now text) ⌝ }
-    ensures { λ r. ⌜ r ≡ begins (now (word .entry)) (drop (c .at) (now (text .entry))) ⌝ }
+pub(crate) fn goes_on(text: &[u8], at: usize, word: &[u8]) -> bool
+    requires { ⌜ at ≤ length (now text) ⌝ }
+    ensures { λ r. ⌜ r ≡ begins (now (word .entry)) (drop at (now (text .entry))) ⌝ }
 {
-    let at = c.at;
     let mut i = 0;
     while i < word.len() {
         if text.len() - at <= i {
@@ -27,12 +25,11 @@ pub(crate) fn goes_on(text: &[u8], c: Cursor, word: &[u8]) -> bool
     true
 }
 
-// The digits at the cursor, at most nine: what they state, and how many they are.
-fn digits_at(text: &[u8], c: Cursor) -> Number
-    requires { ⌜ c .at ≤ length (now text) ⌝ }
-    ensures { λ r. ⌜ r ≡ stated (run 9 (drop (c .at) (now (text .entry)))) ⌝ }
+// The digits at the place, at most nine: what they state, and how many they are.
+fn digits_at(text: &[u8], at: usize) -> Number
+    requires { ⌜ at ≤ length (now text) ⌝ }
+    ensures { λ r. ⌜ r ≡ stated (run 9 (drop at (now (text .entry)))) ⌝ }
 {
-    let at = c.at;
     let mut v: usize = 0;
     let mut k: usize = 0;
     while k < 9 {
@@ -79,13 +76,12 @@ fn none() -> Number
     }
 }
 
-// The number at the cursor.
-fn number_at(text: &[u8], c: Cursor) -> Number
-    requires { ⌜ c .at ≤ length (now text) ⌝ }
-    ensures { λ r. ⌜ r ≡ numberOf (drop (c .at) (now (text .entry))) ⌝ }
+// The number at the place.
+fn number_at(text: &[u8], at: usize) -> Number
+    requires { ⌜ at ≤ length (now text) ⌝ }
+    ensures { λ r. ⌜ r ≡ numberOf (drop at (now (text .entry))) ⌝ }
 {
-    let at = c.at;
-    let d = digits_at(text, c);
+    let d = digits_at(text, at);
     if d.used == 0 {
         return none();
     }
@@ -98,22 +94,21 @@ fn number_at(text: &[u8], c: Cursor) -> Number
     d
 }
 
-// The field at the cursor: a key, a number, and what ends it.
-pub(crate) fn field_at(text: &[u8], c: Cursor, key: &[u8], stop: &[u8]) -> Number
-    requires { ⌜ c .at ≤ length (now text) ⌝ }
-    ensures { λ r. ⌜ r ≡ field (now (key .entry)) (now (stop .entry)) (drop (c .at) (now (text .entry))) ⌝ }
+// The field at the place: a key, a number, and what ends it.
+pub(crate) fn field_at(text: &[u8], at: usize, key: &[u8], stop: &[u8]) -> Number
+    requires { ⌜ at ≤ length (now text) ⌝ }
+    ensures { λ r. ⌜ r ≡ field (now (key .entry)) (now (stop .entry)) (drop at (now (text .entry))) ⌝ }
 {
-    let at = c.at;
-    if !goes_on(text, c, key) {
+    if !goes_on(text, at, key) {
         return none();
     }
     let start = at + key.len();
-    let v = number_at(text, Cursor { at: start });
+    let v = number_at(text, start);
     if !v.ok {
         return none();
     }
     let end = start + v.used;
-    if !goes_on(text, Cursor { at: end }, stop) {
+    if !goes_on(text, end, stop) {
         return none();
     }
     Number {
@@ -136,23 +131,22 @@ fn no_row() -> Row
     }
 }
 
-// The row at the cursor.
-pub(crate) fn row_at(text: &[u8], c: Cursor) -> Row
-    requires { ⌜ c .at ≤ length (now text) ⌝ }
-    ensures { λ r. ⌜ r ≡ row (drop (c .at) (now (text .entry))) ⌝ }
+// The row at the place.
+pub(crate) fn row_at(text: &[u8], at: usize) -> Row
+    requires { ⌜ at ≤ length (now text) ⌝ }
+    ensures { λ r. ⌜ r ≡ row (drop at (now (text .entry))) ⌝ }
 {
-    let at = c.at;
-    let a = field_at(text, c, b"line=", b",");
+    let a = field_at(text, at, b"line=", b",");
     if !a.ok {
         return no_row();
     }
     let second = at + a.used;
-    let b = field_at(text, Cursor { at: second }, b"", b",");
+    let b = field_at(text, second, b"", b",");
     if !b.ok {
         return no_row();
     }
     let third = second + b.used;
-    let s = field_at(text, Cursor { at: third }, b"", b"\n");
+    let s = field_at(text, third, b"", b"\n");
     if !s.ok {
         return no_row();
     }

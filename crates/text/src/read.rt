@@ -1,10 +1,9 @@
 // Reading a plant text into three lent lists: the form of the whole text, then its values in the fixed order, then room; the lists are
 // filled last.
-use crate::Cursor;
 use crate::Form;
 use crate::Reading;
 use crate::lines;
-use crate::whole;
+use crate::reader;
 use cut::check;
 use rules::Refusal;
 ghost use mathlib.Core.Path.{_≡_};
@@ -78,30 +77,30 @@ fn head_fault(f: Form) -> Refusal
     earlier(form, size)
 }
 
-// The numbers of the m rows at the cursor.
+// The numbers of the m rows at the place.
 fn keep_rows(
     text: &[u8],
-    c: Cursor,
+    at: usize,
     m: usize,
     a: &mut [usize; 1024],
     b: &mut [usize; 1024],
     s: &mut [usize; 1024],
 )
-    requires { ⌜ (c .at ≤ length (now text)) × (m ≤ 1024) ⌝ }
+    requires { ⌜ (at ≤ length (now text)) × (m ≤ 1024) ⌝ }
     requires { ⌜ (length (now a) ≡ 1024) × (length (now b) ≡ 1024) × (length (now s) ≡ 1024) ⌝ }
     ensures { λ _. ⌜
-        (take m (now (a .exit)) ≡ column (λ w. w .first) m (drop (c .at) (now (text .entry))))
-        × (take m (now (b .exit)) ≡ column (λ w. w .second) m (drop (c .at) (now (text .entry))))
-        × (take m (now (s .exit)) ≡ column (λ w. w .signals) m (drop (c .at) (now (text .entry)))) ⌝ }
+        (take m (now (a .exit)) ≡ column (λ w. w .first) m (drop at (now (text .entry))))
+        × (take m (now (b .exit)) ≡ column (λ w. w .second) m (drop at (now (text .entry))))
+        × (take m (now (s .exit)) ≡ column (λ w. w .signals) m (drop at (now (text .entry)))) ⌝ }
 {
-    let mut at = c.at;
+    let mut place = at;
     let mut i = 0;
     while i < m {
-        let r = lines::row_at(text, Cursor { at });
+        let r = lines::row_at(text, place);
         a[i] = r.first;
         b[i] = r.second;
         s[i] = r.signals;
-        at += r.used;
+        place += r.used;
         i += 1;
     }
 }
@@ -157,7 +156,7 @@ pub fn read_plant(
     if 32768 < text.len() {
         return refused(14, 0);
     }
-    let f = whole::form_of(text);
+    let f = reader::form_of(text);
     let h = head_fault(f);
     if h.number != 0 {
         return refused(h.number, h.place);
@@ -167,7 +166,7 @@ pub fn read_plant(
     let mut a = [0usize; 1024];
     let mut b = [0usize; 1024];
     let mut s = [0usize; 1024];
-    keep_rows(text, Cursor { at }, m, &mut a, &mut b, &mut s);
+    keep_rows(text, at, m, &mut a, &mut b, &mut s);
     let r = check::check_plant(f.devices, &a[..m], &b[..m], &s[..m]);
     if r.number != 0 {
         return refused(r.number, r.place);

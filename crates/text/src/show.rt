@@ -9,7 +9,7 @@ ghost use mathlib.Core.Path.{_≡_};
 ghost use Prim.Native.Nat.{_≤_};
 ghost use lib.ListN.{length};
 ghost use Rattle.rules.specs.Plant.{plantOf};
-ghost use Rattle.rules.specs.Refusals.{Accepted};
+ghost use Rattle.rules.specs.Accepted.{Accepted};
 ghost use Rattle.text.specs.Shown.{ShownPlant, ShownText, ListIs};
 
 // Writes the listing of an accepted plant to the front of a list that holds every listing, and answers how many bytes it takes.

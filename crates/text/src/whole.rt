@@ -1,5 +1,4 @@
-// The form of a whole text, at a cursor.
-use crate::Cursor;
+// The form of a whole text, at a place.
 use crate::Form;
 use crate::Passed;
 use crate::lines;
@@ -8,16 +7,15 @@ ghost use Prim.Native.Nat.{_≤_, _<_};
 ghost use lib.ListN.{length, drop};
 ghost use Rattle.text.specs.Form.{passed, endFault, rowsFault, wrongLine, form};
 
-// The rows at the cursor, of m that should come, up to the first that is not as expected.
-fn pass_rows(text: &[u8], c: Cursor, m: usize) -> Passed
-    requires { ⌜ c .at ≤ length (now text) ⌝ }
-    ensures { λ r. ⌜ r ≡ passed m (drop (c .at) (now (text .entry))) ⌝ }
+// The rows at the place, of m that should come, up to the first that is not as expected.
+fn pass_rows(text: &[u8], at: usize, m: usize) -> Passed
+    requires { ⌜ at ≤ length (now text) ⌝ }
+    ensures { λ r. ⌜ r ≡ passed m (drop at (now (text .entry))) ⌝ }
 {
-    let at = c.at;
     let mut rows: usize = 0;
     let mut used: usize = 0;
     while rows < m {
-        let r = lines::row_at(text, Cursor { at: at + used });
+        let r = lines::row_at(text, at + used);
         if !r.ok {
             return Passed { rows, used };
         }
@@ -27,13 +25,12 @@ fn pass_rows(text: &[u8], c: Cursor, m: usize) -> Passed
     Passed { rows, used }
 }
 
-// The end of the text at the cursor: the number of the text line that is not as expected, or 0. Text line k should come here.
-fn end_fault(text: &[u8], c: Cursor, k: usize) -> usize
-    requires { ⌜ (c .at ≤ length (now text)) × (k < 4294967296) ⌝ }
-    ensures { λ r. ⌜ r ≡ endFault (drop (c .at) (now (text .entry))) k ⌝ }
+// The end of the text at the place: the number of the text line that is not as expected, or 0. Text line k should come here.
+fn end_fault(text: &[u8], at: usize, k: usize) -> usize
+    requires { ⌜ (at ≤ length (now text)) × (k < 4294967296) ⌝ }
+    ensures { λ r. ⌜ r ≡ endFault (drop at (now (text .entry))) k ⌝ }
 {
-    let at = c.at;
-    if !lines::goes_on(text, c, b"end=plant\n") {
+    if !lines::goes_on(text, at, b"end=plant\n") {
         return k;
     }
     if text.len() - at == 10 {
@@ -42,16 +39,15 @@ fn end_fault(text: &[u8], c: Cursor, k: usize) -> usize
     k + 1
 }
 
-// The rows and the end at the cursor: the number of the text line that is not as expected, or 0.
-fn rows_fault(text: &[u8], c: Cursor, m: usize) -> usize
-    requires { ⌜ (c .at ≤ length (now text)) × (m < 1000000000) ⌝ }
-    ensures { λ r. ⌜ r ≡ rowsFault m (drop (c .at) (now (text .entry))) ⌝ }
+// The rows and the end at the place: the number of the text line that is not as expected, or 0.
+fn rows_fault(text: &[u8], at: usize, m: usize) -> usize
+    requires { ⌜ (at ≤ length (now text)) × (m < 1000000000) ⌝ }
+    ensures { λ r. ⌜ r ≡ rowsFault m (drop at (now (text .entry))) ⌝ }
 {
-    let at = c.at;
-    let p = pass_rows(text, c, m);
+    let p = pass_rows(text, at, m);
     if p.rows == m {
         let end = at + p.used;
-        return end_fault(text, Cursor { at: end }, 4 + m);
+        return end_fault(text, end, 4 + m);
     }
     4 + p.rows
 }
@@ -68,24 +64,25 @@ fn wrong_line(k: usize) -> Form
     }
 }
 
-// The form of a text.
-pub(crate) fn form_of(text: &[u8]) -> Form
-    ensures { λ r. ⌜ r ≡ form (now (text .entry)) ⌝ }
+// The form of the text from the place on.
+pub(crate) fn form_at(text: &[u8], at: usize) -> Form
+    requires { ⌜ at ≤ length (now text) ⌝ }
+    ensures { λ r. ⌜ r ≡ form (drop at (now (text .entry))) ⌝ }
 {
-    if !lines::goes_on(text, Cursor { at: 0 }, b"plant=1\n") {
+    if !lines::goes_on(text, at, b"plant=1\n") {
         return wrong_line(1);
     }
-    let n = lines::field_at(text, Cursor { at: 8 }, b"devices=", b"\n");
+    let n = lines::field_at(text, at + 8, b"devices=", b"\n");
     if !n.ok {
         return wrong_line(2);
     }
     let middle = 8 + n.used;
-    let m = lines::field_at(text, Cursor { at: middle }, b"lines=", b"\n");
+    let m = lines::field_at(text, at + middle, b"lines=", b"\n");
     if !m.ok {
         return wrong_line(3);
     }
     let start = middle + m.used;
-    let line = rows_fault(text, Cursor { at: start }, m.value);
+    let line = rows_fault(text, at + start, m.value);
     Form {
         line,
         devices: n.value,

@@ -9,11 +9,11 @@ use Rattle.cases.proofs.plants.fill.Statement.{statement}
 use Rattle.cases.proofs.plants.fill.Tie as tie
 
 abbrev Inv-loop : tie.InvT-loop
-Inv-loop n reach carried firsts₀ seconds₀ signals₀ e₀ i₀ firsts seconds signals e i =
+Inv-loop n reach carried fall firsts₀ seconds₀ signals₀ e₀ s₀ i₀ firsts seconds signals e s i =
     (length firsts ≡ length firsts₀) × (length seconds ≡ length seconds₀) × (length signals ≡ length signals₀)
 
 abbrev μ-loop : tie.MeasureT-loop
-μ-loop n reach carried firsts₀ seconds₀ signals₀ e₀ i₀ firsts seconds signals e i = 1025 - i
+μ-loop n reach carried fall firsts₀ seconds₀ signals₀ e₀ s₀ i₀ firsts seconds signals e s i = 1025 - i
 
 loop-holds : tie.Need-loop-holds Inv-loop μ-loop
 loop-holds c = search needs
@@ -29,6 +29,9 @@ put-requires-3 c κs = search needs
 
 next-line-requires : tie.Need-next-line-requires Inv-loop μ-loop
 next-line-requires c κs = search needs
+
+next-signals-requires : tie.Need-next-signals-requires Inv-loop μ-loop
+next-signals-requires c κs = search needs
 
 add-i : tie.Need-add-i Inv-loop μ-loop
 add-i c = omega arith
@@ -62,6 +65,7 @@ fill-spec =
     put-requires-2
     put-requires-3
     next-line-requires
+    next-signals-requires
     add-i
     loop-less
     loop-again

@@ -1,9 +1,8 @@
 -- `cut::check::check_lines` meets its contract. The loop's invariant is `Passed`: the lines below i break no rule. The measure is the number of lines left.
 -- Assumes nothing.
 use Prim.Native.Nat.{_-_}
-use mathlib.Core.Path.{sym, _∙_, ap}
+use mathlib.Core.Path.{sym, _∙_}
 use mathlib.Core.Logic.{⊎-elim}
-use native.Mathlib.Omega.{arith}
 use borrow.Author.Needs.{needs}
 use borrow.Author.Tests.{not-true, not-false, ne-eqb}
 use mathlib.Core.Path.{_≡_}

@@ -1,6 +1,5 @@
 -- `cut::check::rising` meets its contract: line 0 rises, and of a later one each way is what `rises-at` computes to.
 -- Assumes nothing.
-use mathlib.Core.Path.{ap, sym, _∙_}
 use borrow.Author.Needs.{needs}
 use borrow.Author.Tests.{lt-ltb, le-ltb, eq-eqb, ne-eqb}
 use Rattle.rules.specs.Refusals.{rises}

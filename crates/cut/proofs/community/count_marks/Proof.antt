@@ -4,7 +4,7 @@ use Prim.Native.Nat.{_-_}
 use mathlib.Core.Path.{refl}
 use native.Mathlib.Omega.{arith}
 use lib.ListN.{getD}
-use Rattle.cut.proofs.SumLoop.{Summed, summed-start, summed-more, summed-most, summed-done}
+use Rattle.rules.proofs.SumLoop.{Summed, summed-start, summed-more, summed-most, summed-done}
 use borrow.Author.Needs.{needs}
 use Rattle.cut.proofs.community.count_marks.Statement.{statement}
 use Rattle.cut.proofs.community.count_marks.Tie as tie

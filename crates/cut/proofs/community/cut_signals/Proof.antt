@@ -6,7 +6,7 @@ use native.Mathlib.Omega.{arith}
 use lib.Dec.{eqb}
 use lib.ListN.{length, getD}
 use denote.Ref.{now}
-use Rattle.cut.proofs.SumLoop.{Summed, summed-start, summed-more, summed-most, summed-done}
+use Rattle.rules.proofs.SumLoop.{Summed, summed-start, summed-more, summed-most, summed-done}
 use borrow.Author.Needs.{needs}
 use Rattle.cut.proofs.community.cut_signals.Statement.{statement}
 use Rattle.cut.proofs.community.cut_signals.Tie as tie

@@ -1,6 +1,6 @@
 -- `cut::community::fill_community` meets its contract: with no fence the least set is the community, and the counts over its marks are its size and out.
 -- Assumes nothing.
-use mathlib.Core.Path.{_≡_, sym, _∙_}
+use mathlib.Core.Path.{_∙_}
 use native.Mathlib.Nat.{lt-of-lt-of-le}
 use borrow.Author.Needs.{needs}
 use Rattle.cut.proofs.IndexLaws.{lasts-none}

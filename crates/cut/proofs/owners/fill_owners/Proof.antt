@@ -1,7 +1,7 @@
 -- `cut::owners::fill_owners` meets its contract. The loop's invariant: the owners are those of the sweep over the devices below k. The measure is the number of devices left.
 -- Assumes nothing.
 use Prim.Native.Nat.{_-_}
-use mathlib.Core.Path.{refl, sym, ap, _∙_}
+use mathlib.Core.Path.{sym, ap, _∙_}
 use mathlib.Core.Logic.{⊎-elim}
 use Prim.Native.Nat.{ℕ, _≤_}
 use mathlib.Core.Path.{subst}
@@ -14,7 +14,6 @@ use Rattle.rules.specs.Plant.{plantOf}
 use Rattle.rules.specs.Community.{communityIn}
 use Rattle.rules.specs.Lists.{over}
 use Rattle.cut.specs.Calls.{fenceOf, wantedIn}
-use Rattle.cut.specs.Search.{Lasts, Priors}
 use Rattle.rules.proofs.FillLaws.{over-size, over-over}
 use Rattle.cut.proofs.IndexLaws.{lasts-none}
 use Rattle.cut.proofs.LeastLaws.{laid-accepted}

@@ -1,15 +1,13 @@
 -- `grouping::hierarchy::search` meets its contract, and ends: the difference of the two levels' numbers of groups falls. Assumes nothing.
 use Prim.Native.Nat.{ℕ, _+_, _-_, _≤_, _<_}
-use mathlib.Core.Path.{_≡_, sym, _∙_}
 use native.Mathlib.Numerals.{add-one}
 use native.Mathlib.Omega.{arith}
 use borrow.Author.Needs.{needs}
 use borrow.Fn.Kinds.{In}
 use borrow.Fn.PlainCycle.{Measures, is, falls, and}
-use lib.ListN.{length, length-set}
-use Rattle.rules.specs.Plant.{plantOf, Sound}
+use lib.ListN.{length-set}
+use Rattle.rules.specs.Plant.{plantOf}
 use Rattle.rules.proofs.RefusalLaws.{accepted-sound}
-use Rattle.grouping.specs.Stretch.{SomeSpan}
 use Rattle.grouping.proofs.HalfLaws.{half-between}
 use Rattle.grouping.proofs.SearchLaws.{search-last, search-ready, some-two, some-finer, some-coarser, some-fewer, search-halves}
 use Rattle.grouping.proofs.hierarchy.search.Reads as search′

@@ -28,7 +28,7 @@ shared-slice-read-b : tie.Need-shared-slice-read-b Inv-loop μ-loop
 shared-slice-read-b c = omega arith
 
 cast-b : tie.Need-cast-b Inv-loop μ-loop
-cast-b c = omega (arith, c .shared-slice-known .given (c .before .before .before .before .args .c .at + c .before .before .before .loop .k))
+cast-b c = omega (arith, c .shared-slice-known .given (c .before .before .before .before .args .at + c .before .before .before .loop .k))
 
 returns-2 : tie.Need-returns-2 Inv-loop μ-loop
 returns-2 c = count-low (c .before .before .before .before .loop .inv) (omega arith) (c .if2 .taken)

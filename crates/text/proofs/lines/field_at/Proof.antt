@@ -17,7 +17,7 @@ returns : tie.Need-returns
 returns c =
     let at-goes-on = c .before .before in
     let start = at-goes-on .before .before .before .before in
-    c .none .ensures ∙ field-no-key (start .args .text .now) (start .args .key .now) (start .args .stop .now) (start .args .c .at) (at-goes-on .goes-on .ensures) (c .before .if1 .taken)
+    c .none .ensures ∙ field-no-key (start .args .text .now) (start .args .key .now) (start .args .stop .now) (start .args .at) (at-goes-on .goes-on .ensures) (c .before .if1 .taken)
 
 add-start : tie.Need-add-start
 add-start c = search needs
@@ -25,7 +25,7 @@ add-start c = search needs
 number-at-requires : tie.Need-number-at-requires
 number-at-requires c κs =
     let start = c .before .before .before .before .before in
-    key-within (start .args .text .now) (start .args .key .now) (start .args .stop .now) (start .args .c .at) (c .before .goes-on .ensures) (c .if1 .left) (start .pre)
+    key-within (start .args .text .now) (start .args .key .now) (start .args .stop .now) (start .args .at) (c .before .goes-on .ensures) (c .if1 .left) (start .pre)
 
 none-requires-2 : tie.Need-none-requires-2
 none-requires-2 c κs = search needs
@@ -36,7 +36,7 @@ returns-2 c =
     let at-if1 = at-number-at .before in
     let at-goes-on = at-if1 .before in
     let start = at-goes-on .before .before .before .before in
-    c .none2 .ensures ∙ field-no-number (start .args .text .now) (start .args .key .now) (start .args .stop .now) (start .args .c .at) (at-goes-on .goes-on .ensures) (at-if1 .if1 .left) (at-number-at .number-at .ensures) (c .before .if2 .taken)
+    c .none2 .ensures ∙ field-no-number (start .args .text .now) (start .args .key .now) (start .args .stop .now) (start .args .at) (at-goes-on .goes-on .ensures) (at-if1 .if1 .left) (at-number-at .number-at .ensures) (c .before .if2 .taken)
 
 add-end : tie.Need-add-end
 add-end c =
@@ -44,7 +44,7 @@ add-end c =
     let at-if1 = at-number-at .before in
     let at-goes-on = at-if1 .before in
     let start = at-goes-on .before .before .before .before in
-    omega (arith, number-within (start .args .text .now) (start .args .key .now) (start .args .stop .now) (start .args .c .at) (at-goes-on .goes-on .ensures) (at-if1 .if1 .left) (at-number-at .number-at .ensures) (start .pre))
+    omega (arith, number-within (start .args .text .now) (start .args .key .now) (start .args .stop .now) (start .args .at) (at-goes-on .goes-on .ensures) (at-if1 .if1 .left) (at-number-at .number-at .ensures) (start .pre))
 
 goes-on-requires-2 : tie.Need-goes-on-requires-2
 goes-on-requires-2 c κs =
@@ -52,7 +52,7 @@ goes-on-requires-2 c κs =
     let at-if1 = at-number-at .before in
     let at-goes-on = at-if1 .before in
     let start = at-goes-on .before .before .before .before in
-    number-within (start .args .text .now) (start .args .key .now) (start .args .stop .now) (start .args .c .at) (at-goes-on .goes-on .ensures) (at-if1 .if1 .left) (at-number-at .number-at .ensures) (start .pre)
+    number-within (start .args .text .now) (start .args .key .now) (start .args .stop .now) (start .args .at) (at-goes-on .goes-on .ensures) (at-if1 .if1 .left) (at-number-at .number-at .ensures) (start .pre)
 
 none-requires-3 : tie.Need-none-requires-3
 none-requires-3 c κs = search needs
@@ -65,7 +65,16 @@ returns-3 c =
     let at-if1 = at-number-at .before in
     let at-goes-on = at-if1 .before in
     let start = at-goes-on .before .before .before .before in
-    c .none3 .ensures ∙ field-no-stop (start .args .text .now) (start .args .key .now) (start .args .stop .now) (start .args .c .at) (at-goes-on .goes-on .ensures) (at-if1 .if1 .left) (at-number-at .number-at .ensures) (at-goes-on2 .goes-on2 .ensures) (at-if2 .if2 .left) (c .before .if3 .taken)
+    c .none3 .ensures ∙ field-no-stop (start .args .text .now) (start .args .key .now) (start .args .stop .now) (start .args .at) (at-goes-on .goes-on .ensures) (at-if1 .if1 .left) (at-number-at .number-at .ensures) (at-goes-on2 .goes-on2 .ensures) (at-if2 .if2 .left) (c .before .if3 .taken)
+
+add-t11 : tie.Need-add-t11
+add-t11 c =
+    let at-goes-on2 = c .before .before in
+    let at-number-at = at-goes-on2 .before .before .before .before in
+    let at-if1 = at-number-at .before in
+    let at-goes-on = at-if1 .before in
+    let start = at-goes-on .before .before .before .before in
+    omega (arith, stop-within (start .args .text .now) (start .args .key .now) (start .args .stop .now) (start .args .at) (at-goes-on .goes-on .ensures) (at-if1 .if1 .left) (at-number-at .number-at .ensures) (at-goes-on2 .goes-on2 .ensures) (start .pre) (c .before .if3 .left))
 
 add-t13 : tie.Need-add-t13
 add-t13 c =
@@ -74,16 +83,7 @@ add-t13 c =
     let at-if1 = at-number-at .before in
     let at-goes-on = at-if1 .before in
     let start = at-goes-on .before .before .before .before in
-    omega (arith, stop-within (start .args .text .now) (start .args .key .now) (start .args .stop .now) (start .args .c .at) (at-goes-on .goes-on .ensures) (at-if1 .if1 .left) (at-number-at .number-at .ensures) (at-goes-on2 .goes-on2 .ensures) (start .pre) (c .before .if3 .left))
-
-add-t15 : tie.Need-add-t15
-add-t15 c =
-    let at-goes-on2 = c .before .before in
-    let at-number-at = at-goes-on2 .before .before .before .before in
-    let at-if1 = at-number-at .before in
-    let at-goes-on = at-if1 .before in
-    let start = at-goes-on .before .before .before .before in
-    omega (arith, stop-within (start .args .text .now) (start .args .key .now) (start .args .stop .now) (start .args .c .at) (at-goes-on .goes-on .ensures) (at-if1 .if1 .left) (at-number-at .number-at .ensures) (at-goes-on2 .goes-on2 .ensures) (start .pre) (c .before .if3 .left))
+    omega (arith, stop-within (start .args .text .now) (start .args .key .now) (start .args .stop .now) (start .args .at) (at-goes-on .goes-on .ensures) (at-if1 .if1 .left) (at-number-at .number-at .ensures) (at-goes-on2 .goes-on2 .ensures) (start .pre) (c .before .if3 .left))
 
 returns-4 : tie.Need-returns-4
 returns-4 c =
@@ -93,7 +93,7 @@ returns-4 c =
     let at-if1 = at-number-at .before in
     let at-goes-on = at-if1 .before in
     let start = at-goes-on .before .before .before .before in
-    field-good (start .args .text .now) (start .args .key .now) (start .args .stop .now) (start .args .c .at) (at-goes-on .goes-on .ensures) (at-if1 .if1 .left) (at-number-at .number-at .ensures) (at-goes-on2 .goes-on2 .ensures) (at-if2 .if2 .left) (c .before .if3 .left)
+    field-good (start .args .text .now) (start .args .key .now) (start .args .stop .now) (start .args .at) (at-goes-on .goes-on .ensures) (at-if1 .if1 .left) (at-number-at .number-at .ensures) (at-goes-on2 .goes-on2 .ensures) (at-if2 .if2 .left) (c .before .if3 .left)
 
 pub field-at-spec : {M : Type 1} → statement M
 field-at-spec =
@@ -110,6 +110,6 @@ field-at-spec =
     goes-on-requires-2
     none-requires-3
     returns-3
+    add-t11
     add-t13
-    add-t15
     returns-4)

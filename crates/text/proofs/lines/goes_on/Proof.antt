@@ -12,10 +12,10 @@ use Rattle.text.proofs.lines.goes_on.Statement.{statement}
 use Rattle.text.proofs.lines.goes_on.Tie as tie
 
 abbrev Inv-loop : tie.InvT-loop
-Inv-loop text word at i₀ i = (i ≤ length word) × (begins word (drop at text) ≡ begins (drop i word) (drop (at + i) text))
+Inv-loop text at word i₀ i = (i ≤ length word) × (begins word (drop at text) ≡ begins (drop i word) (drop (at + i) text))
 
 abbrev μ-loop : tie.MeasureT-loop
-μ-loop text word at i₀ i = length word - i
+μ-loop text at word i₀ i = length word - i
 
 loop-holds : tie.Need-loop-holds Inv-loop μ-loop
 loop-holds c = (omega arith, rw add-zero refl)

@@ -16,20 +16,20 @@ returns : tie.Need-returns
 returns c =
     let at-digits-at = c .before .before .before in
     let start = at-digits-at .before .before in
-    c .none .ensures ∙ number-none (start .args .text .now) (start .args .c .at) (at-digits-at .digits-at .ensures) (c .before .if1 .taken)
+    c .none .ensures ∙ number-none (start .args .text .now) (start .args .at) (at-digits-at .digits-at .ensures) (c .before .if1 .taken)
 
 returns-2 : tie.Need-returns-2
 returns-2 c =
     let at-digits-at = c .before .before .before .before in
     let start = at-digits-at .before .before in
-    number-one (start .args .text .now) (start .args .c .at) (at-digits-at .digits-at .ensures) (c .if2 .taken)
+    number-one (start .args .text .now) (start .args .at) (at-digits-at .digits-at .ensures) (c .if2 .taken)
 
 shared-slice-read-if3 : tie.Need-shared-slice-read-if3
 shared-slice-read-if3 c =
     let at-if1 = c .before .before .before in
     let at-digits-at = at-if1 .before .before in
     let start = at-digits-at .before .before in
-    number-place (start .args .text .now) (start .args .c .at) (at-digits-at .digits-at .ensures) (at-if1 .if1 .left)
+    number-place (start .args .text .now) (start .args .at) (at-digits-at .digits-at .ensures) (at-if1 .if1 .left)
 
 none-requires-2 : tie.Need-none-requires-2
 none-requires-2 c κs = search needs
@@ -40,7 +40,7 @@ returns-3 c =
     let at-if1 = at-if2 .before .before in
     let at-digits-at = at-if1 .before .before in
     let start = at-digits-at .before .before in
-    c .none2 .ensures ∙ number-zero (start .args .text .now) (start .args .c .at) (at-digits-at .digits-at .ensures) (at-if1 .if1 .left) (at-if2 .if2 .left) (c .before .if3 .taken)
+    c .none2 .ensures ∙ number-zero (start .args .text .now) (start .args .at) (at-digits-at .digits-at .ensures) (at-if1 .if1 .left) (at-if2 .if2 .left) (c .before .if3 .taken)
 
 returns-4 : tie.Need-returns-4
 returns-4 c =
@@ -48,7 +48,7 @@ returns-4 c =
     let at-if1 = at-if2 .before .before in
     let at-digits-at = at-if1 .before .before in
     let start = at-digits-at .before .before in
-    number-more (start .args .text .now) (start .args .c .at) (at-digits-at .digits-at .ensures) (at-if1 .if1 .left) (at-if2 .if2 .left) (c .if3 .left)
+    number-more (start .args .text .now) (start .args .at) (at-digits-at .digits-at .ensures) (at-if1 .if1 .left) (at-if2 .if2 .left) (c .if3 .left)
 
 pub number-at-spec : {M : Type 1} → statement M
 number-at-spec =

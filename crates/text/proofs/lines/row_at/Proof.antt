@@ -23,13 +23,13 @@ returns : tie.Need-returns
 returns c =
     let at-field-at = c .before .before .before in
     let start = at-field-at .before .before .before .before in
-    c .no-row .ensures ∙ row-no-first (start .args .text .now) (start .args .c .at) (at-field-at .field-at .ensures) (c .before .if1 .taken)
+    c .no-row .ensures ∙ row-no-first (start .args .text .now) (start .args .at) (at-field-at .field-at .ensures) (c .before .if1 .taken)
 
 add-second : tie.Need-add-second
 add-second c =
     let at-field-at = c .before .before .before in
     let start = at-field-at .before .before .before .before in
-    omega (arith, first-within (start .args .text .now) (start .args .c .at) (at-field-at .field-at .ensures) (start .pre))
+    omega (arith, first-within (start .args .text .now) (start .args .at) (at-field-at .field-at .ensures) (start .pre))
 
 slice-aggregate-field-at-3 : tie.Need-slice-aggregate-field-at-3
 slice-aggregate-field-at-3 c = search needs
@@ -41,7 +41,7 @@ field-at-requires-2 : tie.Need-field-at-requires-2
 field-at-requires-2 c κs =
     let at-field-at = c .before .before .before .before .before in
     let start = at-field-at .before .before .before .before in
-    first-within (start .args .text .now) (start .args .c .at) (at-field-at .field-at .ensures) (start .pre)
+    first-within (start .args .text .now) (start .args .at) (at-field-at .field-at .ensures) (start .pre)
 
 no-row-requires-2 : tie.Need-no-row-requires-2
 no-row-requires-2 c κs = search needs
@@ -52,7 +52,7 @@ returns-2 c =
     let at-if1 = at-field-at2 .before .before .before .before in
     let at-field-at = at-if1 .before .before in
     let start = at-field-at .before .before .before .before in
-    c .no-row2 .ensures ∙ row-no-second (start .args .text .now) (start .args .c .at) (at-field-at .field-at .ensures) (at-if1 .if1 .left) (at-field-at2 .field-at2 .ensures) (c .before .if2 .taken)
+    c .no-row2 .ensures ∙ row-no-second (start .args .text .now) (start .args .at) (at-field-at .field-at .ensures) (at-if1 .if1 .left) (at-field-at2 .field-at2 .ensures) (c .before .if2 .taken)
 
 add-third : tie.Need-add-third
 add-third c =
@@ -60,7 +60,7 @@ add-third c =
     let at-if1 = at-field-at2 .before .before .before .before in
     let at-field-at = at-if1 .before .before in
     let start = at-field-at .before .before .before .before in
-    omega (arith, second-within (start .args .text .now) (start .args .c .at) (at-field-at .field-at .ensures) (at-if1 .if1 .left) (at-field-at2 .field-at2 .ensures) (start .pre))
+    omega (arith, second-within (start .args .text .now) (start .args .at) (at-field-at .field-at .ensures) (at-if1 .if1 .left) (at-field-at2 .field-at2 .ensures) (start .pre))
 
 slice-aggregate-field-at-5 : tie.Need-slice-aggregate-field-at-5
 slice-aggregate-field-at-5 c = search needs
@@ -74,7 +74,7 @@ field-at-requires-3 c κs =
     let at-if1 = at-field-at2 .before .before .before .before in
     let at-field-at = at-if1 .before .before in
     let start = at-field-at .before .before .before .before in
-    second-within (start .args .text .now) (start .args .c .at) (at-field-at .field-at .ensures) (at-if1 .if1 .left) (at-field-at2 .field-at2 .ensures) (start .pre)
+    second-within (start .args .text .now) (start .args .at) (at-field-at .field-at .ensures) (at-if1 .if1 .left) (at-field-at2 .field-at2 .ensures) (start .pre)
 
 no-row-requires-3 : tie.Need-no-row-requires-3
 no-row-requires-3 c κs = search needs
@@ -87,25 +87,25 @@ returns-3 c =
     let at-if1 = at-field-at2 .before .before .before .before in
     let at-field-at = at-if1 .before .before in
     let start = at-field-at .before .before .before .before in
-    c .no-row3 .ensures ∙ row-no-third (start .args .text .now) (start .args .c .at) (at-field-at .field-at .ensures) (at-if1 .if1 .left) (at-field-at2 .field-at2 .ensures) (at-if2 .if2 .left) (at-field-at3 .field-at3 .ensures) (c .before .if3 .taken)
+    c .no-row3 .ensures ∙ row-no-third (start .args .text .now) (start .args .at) (at-field-at .field-at .ensures) (at-if1 .if1 .left) (at-field-at2 .field-at2 .ensures) (at-if2 .if2 .left) (at-field-at3 .field-at3 .ensures) (c .before .if3 .taken)
 
-add-t29 : tie.Need-add-t29
-add-t29 c =
+add-t27 : tie.Need-add-t27
+add-t27 c =
     let at-field-at2 = c .before .before .before .before .before .before .before .before .before .before in
     let at-if1 = at-field-at2 .before .before .before .before in
     let at-field-at = at-if1 .before .before in
     let start = at-field-at .before .before .before .before in
-    omega (arith, start .good .0 .0, second-within (start .args .text .now) (start .args .c .at) (at-field-at .field-at .ensures) (at-if1 .if1 .left) (at-field-at2 .field-at2 .ensures) (start .pre))
+    omega (arith, start .good .0 .0, second-within (start .args .text .now) (start .args .at) (at-field-at .field-at .ensures) (at-if1 .if1 .left) (at-field-at2 .field-at2 .ensures) (start .pre))
 
-add-t30 : tie.Need-add-t30
-add-t30 c =
+add-t28 : tie.Need-add-t28
+add-t28 c =
     let at-field-at3 = c .before .before .before .before .before in
     let at-if2 = at-field-at3 .before .before .before .before in
     let at-field-at2 = at-if2 .before .before in
     let at-if1 = at-field-at2 .before .before .before .before in
     let at-field-at = at-if1 .before .before in
     let start = at-field-at .before .before .before .before in
-    omega (arith, start .good .0 .0, third-within (start .args .text .now) (start .args .c .at) (at-field-at .field-at .ensures) (at-if1 .if1 .left) (at-field-at2 .field-at2 .ensures) (at-if2 .if2 .left) (at-field-at3 .field-at3 .ensures) (start .pre))
+    omega (arith, start .good .0 .0, third-within (start .args .text .now) (start .args .at) (at-field-at .field-at .ensures) (at-if1 .if1 .left) (at-field-at2 .field-at2 .ensures) (at-if2 .if2 .left) (at-field-at3 .field-at3 .ensures) (start .pre))
 
 returns-4 : tie.Need-returns-4
 returns-4 c =
@@ -116,7 +116,7 @@ returns-4 c =
     let at-if1 = at-field-at2 .before .before .before .before in
     let at-field-at = at-if1 .before .before in
     let start = at-field-at .before .before .before .before in
-    row-good (start .args .text .now) (start .args .c .at) (at-field-at .field-at .ensures) (at-if1 .if1 .left) (at-field-at2 .field-at2 .ensures) (at-if2 .if2 .left) (at-field-at3 .field-at3 .ensures) (at-if3 .if3 .left)
+    row-good (start .args .text .now) (start .args .at) (at-field-at .field-at .ensures) (at-if1 .if1 .left) (at-field-at2 .field-at2 .ensures) (at-if2 .if2 .left) (at-field-at3 .field-at3 .ensures) (at-if3 .if3 .left)
 
 pub row-at-spec : {M : Type 1} → statement M
 row-at-spec =
@@ -139,6 +139,6 @@ row-at-spec =
     field-at-requires-3
     no-row-requires-3
     returns-3
-    add-t29
-    add-t30
+    add-t27
+    add-t28
     returns-4)

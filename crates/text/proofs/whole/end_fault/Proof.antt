@@ -14,7 +14,7 @@ goes-on-requires c κs = search needs
 returns : tie.Need-returns
 returns c =
     let start = c .before .before .before .before in
-    end-none (start .args .text .now) (start .args .c .at) (start .args .k) (c .before .goes-on .ensures) (c .if1 .taken)
+    end-none (start .args .text .now) (start .args .at) (start .args .k) (c .before .goes-on .ensures) (c .if1 .taken)
 
 sub-if2 : tie.Need-sub-if2
 sub-if2 c = search needs
@@ -23,7 +23,7 @@ returns-2 : tie.Need-returns-2
 returns-2 c =
     let at-goes-on = c .before .before in
     let start = at-goes-on .before .before .before in
-    end-all (start .args .text .now) (start .args .c .at) (start .args .k) (at-goes-on .goes-on .ensures) (c .before .if1 .left) (c .if2 .taken)
+    end-all (start .args .text .now) (start .args .at) (start .args .k) (at-goes-on .goes-on .ensures) (c .before .if1 .left) (c .if2 .taken)
 
 add-result : tie.Need-add-result
 add-result c = search needs
@@ -32,7 +32,7 @@ returns-3 : tie.Need-returns-3
 returns-3 c =
     let at-goes-on = c .before .before in
     let start = at-goes-on .before .before .before in
-    end-more (start .args .text .now) (start .args .c .at) (start .args .k) (at-goes-on .goes-on .ensures) (c .before .if1 .left) (c .if2 .left)
+    end-more (start .args .text .now) (start .args .at) (start .args .k) (at-goes-on .goes-on .ensures) (c .before .if1 .left) (c .if2 .left)
 
 pub end-fault-spec : {M : Type 1} → statement M
 end-fault-spec =

@@ -8,16 +8,16 @@ use Rattle.text.proofs.whole.pass_rows.Statement.{statement}
 use Rattle.text.proofs.whole.pass_rows.Tie as tie
 
 abbrev Inv-loop : tie.InvT-loop
-Inv-loop text m at rows₀ used₀ rows used = Passing text at m rows used
+Inv-loop text at m rows₀ used₀ rows used = Passing text at m rows used
 
 abbrev μ-loop : tie.MeasureT-loop
-μ-loop text m at rows₀ used₀ rows used = m - rows
+μ-loop text at m rows₀ used₀ rows used = m - rows
 
 loop-holds : tie.Need-loop-holds Inv-loop μ-loop
 loop-holds c = passing-start _ _ _ (c .before .pre)
 
-add-t9 : tie.Need-add-t9 Inv-loop μ-loop
-add-t9 c = omega arith
+add-row-at : tie.Need-add-row-at Inv-loop μ-loop
+add-row-at c = omega arith
 
 row-at-requires : tie.Need-row-at-requires Inv-loop μ-loop
 row-at-requires c κs = c .before .loop .inv .within
@@ -59,7 +59,7 @@ pass-rows-spec =
     Inv-loop
     μ-loop
     loop-holds
-    add-t9
+    add-row-at
     row-at-requires
     returns
     add-used

@@ -2,7 +2,7 @@
 -- Assumes nothing.
 use mathlib.Core.Path.{sym}
 use native.Mathlib.Omega.{arith}
-use Rattle.rules.proofs.RangeLaws.{InRange, in-range, off-range}
+use Rattle.rules.proofs.RangeLaws.{in-range, off-range}
 use Rattle.cut.proofs.rate.Rate.accepted.Statement.{statement}
 use Rattle.cut.proofs.rate.Rate.accepted.Tie as tie
 

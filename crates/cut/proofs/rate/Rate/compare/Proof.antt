@@ -1,8 +1,6 @@
 -- `cut::rate::Rate::compare` meets its contract: each way out is the definition's answer at the tests that led there.
 -- Assumes nothing.
-use Prim.Native.Nat.{_<_}
-use mathlib.Core.Path.{_≡_, sym, _∙_}
-use mathlib.Core.Bool.{true, false}
+use mathlib.Core.Path.{sym, _∙_}
 use native.Mathlib.Nat.{lt-of-le-of-lt}
 use lib.Dec.{lit<}
 use borrow.Author.Needs.{needs}

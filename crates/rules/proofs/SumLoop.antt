@@ -1,12 +1,11 @@
 -- A loop that adds up f 0, f 1, .. , each at most b: the total so far is `sum k f`, and it stays at most n times b.
 -- Assumes nothing.
-use Prim.Native.Nat.{ℕ, zero, suc, _+_, _*_, _≤_, _<_, zero-le}
-use mathlib.Core.Path.{_≡_, refl, sym, ap, subst, _∙_}
+use Prim.Native.Nat.{ℕ, _+_, _*_, _≤_, _<_, zero-le}
+use mathlib.Core.Path.{_≡_, refl, sym, ap, _∙_}
 use native.Mathlib.Nat.{le-trans, le-of-eq, mul-le-mul-right, lt-of-lt-of-le, le-antisymm}
 use native.Mathlib.Numerals.{add-one, add-one-le}
-use native.Mathlib.Omega.{arith}
-use Rattle.cut.specs.Search.{sum}
-use Rattle.cut.proofs.SumLaws.{sum-most}
+use Rattle.rules.specs.Numbers.{sum}
+use Rattle.rules.proofs.SumLaws.{sum-most}
 
 pub record Summed (n : ℕ) (f : ℕ → ℕ) (total k : ℕ) : Type 0 where
   pub within : k ≤ n

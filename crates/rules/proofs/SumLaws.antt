@@ -1,14 +1,18 @@
--- Laws of `sum`: sums that agree, that differ at one place, that are 0, of multiples, and of a mark at one place.
+-- Laws of `sum`: sums that agree, that differ at one place, that are 0, of multiples, and of a mark at one place; out and size as sums.
 -- Assumes nothing.
 use Prim.Native.Nat.{ℕ, zero, suc, _+_, _*_, _≤_, _<_, zero-le}
 use mathlib.Core.Path.{_≡_, refl, sym, ap₂}
 use mathlib.Core.Logic.{_⊎_, inl, inr}
 use mathlib.Core.Bool.{cond}
+use mathlib.Core.List.{List, [], _∷_}
 use native.Mathlib.Nat.{le-step, lt-suc-self, le-suc-iff, suc-inj, suc-mul, mul-zero, mul-add}
 use native.Mathlib.Omega.{arith}
 use borrow.Author.Tests.{eq-eqb, ne-eqb}
 use lib.Dec.{eqb}
-use Rattle.cut.specs.Search.{sum}
+use lib.ListN.{length, getD}
+use Rattle.rules.specs.Plant.{Plant, linesOf, plantOf}
+use Rattle.rules.specs.Cut.{Devices, crossing, out, sizeAt, sizeBelow, size}
+use Rattle.rules.specs.Numbers.{sum}
 
 pub sum-agree : (m : ℕ) (f h : ℕ → ℕ) → ((k : ℕ) → k < m → f k ≡ h k) → sum m f ≡ sum m h
 unfolding sum
@@ -66,3 +70,26 @@ sum-one k f d l h =
     let others : (v : ℕ) → v < k → (v ≡ d → ⊥) → f v ≡ 0 = λ v m n. rw (h v m, ne-eqb v d n) in
     let own : f d ≡ 1 = rw (h d l, eq-eqb d d refl) in
     omega (arith, sum-change k (λ v. 0) f d l others, zero-sum k (λ v. 0) (λ v m. refl))
+
+-- out and size as sums
+pub size-one : (g : Plant) (v : ℕ) → sizeAt g v ≡ 1
+unfolding sizeAt
+size-one g v = refl
+
+pub out-sum : (xs ys zs : List ℕ) (S : Devices) → length xs ≡ length ys → length ys ≡ length zs
+    → out (linesOf xs ys zs) S ≡ sum (length xs) (λ l. crossing (getD zs l 0) (S (getD xs l 0)) (S (getD ys l 0)))
+unfolding out linesOf sum
+out-sum [] ys zs S e e′ = refl
+out-sum (a ∷ xs) [] zs S e e′ = absurd (omega arith)
+out-sum (a ∷ xs) (b ∷ ys) [] S e e′ = absurd (omega arith)
+out-sum (a ∷ xs) (b ∷ ys) (c ∷ zs) S e e′ =
+    rw (out-sum xs ys zs S (suc-inj e) (suc-inj e′)) (sym (sum-front (length xs) (λ l. crossing (getD (c ∷ zs) l 0) (S (getD (a ∷ xs) l 0)) (S (getD (b ∷ ys) l 0)))))
+
+pub below-sum : (g : Plant) (k : ℕ) (S : Devices) → sizeBelow g k S ≡ sum k (λ v. cond (S v) (sizeAt g v) 0)
+unfolding sizeBelow sum
+below-sum g zero S = refl
+below-sum g (suc k) S = rw (below-sum g k S)
+
+pub size-sum : (n : ℕ) (xs ys zs : List ℕ) (S : Devices) → size (plantOf n xs ys zs) S ≡ sum n (λ v. cond (S v) (sizeAt (plantOf n xs ys zs) v) 0)
+unfolding size plantOf
+size-sum n xs ys zs S = below-sum (plantOf n xs ys zs) n S
