@@ -19,6 +19,7 @@
 --     PlaceLaws   the place of 15
 --     ListingBound how long a listing can get
 --     ShownLaws   a text has one print
+--     PrintedLaws the numbers that are printed are those meant
 --     ShownCalls  the functions that print a text, step by step
 --     Examples    worked texts, computed
 pub mod Steps
@@ -41,5 +42,6 @@ pub mod PlaceStated
 pub mod PlaceLaws
 pub mod ListingBound
 pub mod ShownLaws
+pub mod PrintedLaws
 pub mod ShownCalls
 pub mod Examples

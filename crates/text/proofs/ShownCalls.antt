@@ -7,7 +7,7 @@ use Prim.Native.Nat.{ℕ, _+_, _*_, _≤_, _<_}
 use native.Mathlib.Nat.{zero-add, mul-le-mul}
 use native.Mathlib.Omega.{arith}
 use mathlib.Core.Path.{_≡_, refl, sym, ap, _∙_}
-use mathlib.Core.List.{List, [], _∷_}
+use mathlib.Core.List.{List}
 use lib.ListN.{length, getD, take, drop}
 use borrow.Author.Tests.{lt-ltb, le-ltb}
 use Rattle.rules.specs.declared.Refusal.{Refusal}
@@ -20,12 +20,11 @@ use Rattle.grouping.specs.declared.hierarchy.Levels.{Levels}
 use Rattle.grouping.specs.Calls.{rowOf, hierarchyFault, Listed, HierarchyIs}
 use Rattle.text.specs.declared.Row.{Row}
 use Rattle.text.specs.declared.Reading.{Reading}
-use Rattle.text.specs.declared.Written.{Written}
 use Rattle.text.specs.Form.{form}
 use Rattle.text.specs.Reading.{valuesOf, firstsOf, secondsOf, signalsOf, readFault, readAnswer, readList, ReadIs}
 use Rattle.text.specs.Listing.{listing, refusedText}
 use Rattle.text.specs.Writing.{placed}
-use Rattle.text.specs.Shown.{textFault, statedPlant, ListingOf, Printed, listAnswer, ListIs, ShownText, ShownPlant}
+use Rattle.text.specs.Shown.{textFault, statedPlant, listAnswer, ListIs, ShownText, ShownPlant}
 use Rattle.text.proofs.Judged.{values-length, front-fits}
 use Rattle.text.proofs.Accepted.{read-clean, text-right}
 use Rattle.text.proofs.ListingBound.{listing-fits}

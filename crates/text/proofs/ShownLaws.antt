@@ -4,7 +4,6 @@
 --     list-determined    two results that the contract of listing allows are equal
 --     list-prints        with room for every listing, and `printed-fits` says how much that is, what is printed stands at the front of the list
 --     printed-begin      of a text that is too long, the first 32,769 bytes are enough
---     low-printed        a low rate that is printed reads back as itself
 -- Assumes nothing.
 use Prim.Native.Nat.{ℕ, zero, suc, _+_, _≤_, _<_}
 use native.Mathlib.Decide.{ℕ-discrete}
@@ -12,7 +11,7 @@ use native.Mathlib.Omega.{arith}
 use mathlib.Core.Path.{_≡_, refl, sym, ap, ap₂, subst, _∙_}
 use mathlib.Core.Bool.{Bool, true, false}
 use mathlib.Core.Logic.{_⊎_, inl, inr}
-use mathlib.Core.List.{List, [], _++_}
+use mathlib.Core.List.{List, _++_}
 use lib.Dec.{ltb}
 use lib.ListN.{length, take, drop}
 use lib.Seq.{take-at, take-all, length-take-le}
@@ -24,17 +23,12 @@ use Rattle.rules.specs.Lists.{over}
 use Rattle.rules.proofs.RefusalLaws.{done-accepted}
 use Rattle.rules.proofs.OrderLaws.{le-or-below}
 use Rattle.rules.proofs.HierarchyLaws.{SameHierarchy, hierarchy-determined}
-use Rattle.text.specs.declared.Number.{Number}
 use Rattle.text.specs.declared.Written.{Written}
-use Rattle.text.specs.Numbers.{isDigit, numberOf, digits}
-use Rattle.text.specs.Lines.{newline}
-use Rattle.text.specs.Form.{form}
 use Rattle.text.specs.Reading.{longFault}
-use Rattle.text.specs.Listing.{slash, pieces, lowText, levelText, levelsText, listing}
+use Rattle.text.specs.Listing.{pieces, lowText, levelText, levelsText, listing}
 use Rattle.text.specs.Shown.{textFault, statedPlant, ListingOf, Printed, listAnswer, ListIs}
 use Rattle.text.proofs.Judged.{read-order}
 use Rattle.text.proofs.Accepted.{read-clean, text-right}
-use Rattle.text.proofs.NumberLaws.{number-reads}
 use Rattle.text.proofs.ListingBound.{listing-fits, refused-most}
 
 -- pieces that are the same one by one
@@ -148,12 +142,3 @@ printed-begin t {b} x = go (le-or-below (length t) 32769)
           listed = λ z. absurd (omega (arith, ap (λ (r : Refusal). r .number) whole));
           refused = λ o. x .refused (λ z. o (ap (λ (r : Refusal). r .number) (sym begin) ∙ z)) ∙ rw begin refl;
         }
-
--- "low its low rate": the numbers that are printed are those of the low rate
-pub low-printed : {g : Plant} {b : List ℕ} (x : ListingOf g b) → g .devices ≤ 128 → (i : ℕ) → suc i < x .count → (rest : List ℕ)
-    → (numberOf (digits (x .lowP i) ++ (slash ++ rest)) .value ≡ x .lowP i) × (numberOf (digits (x .lowQ i) ++ (newline ++ rest)) .value ≡ x .lowQ i)
-unfolding isDigit
-low-printed x few i c rest = (
-  ap (λ (n : Number). n .value) (number-reads (x .lowP i) 47 rest (omega (arith, x .low-p-most i c)) refl),
-  ap (λ (n : Number). n .value) (number-reads (x .lowQ i) 10 rest (omega (arith, x .hierarchy .denominator i c)) refl),
-)
