@@ -15,7 +15,8 @@ use lib.Dec.{ltb, eqb}
 use lib.ListN.{length, getD}
 use borrow.Author.Tests.{eqb-true, ltb-false}
 use Rattle.rules.specs.declared.Refusal.{Refusal}
-use Rattle.rules.specs.Plant.{Plant, Sound}
+use Rattle.rules.specs.Plant.{Plant}
+use Rattle.rules.specs.Accepted.{Sound}
 use Rattle.rules.specs.Groups.{label, groups, distinct}
 use Rattle.rules.specs.Refusals.{done, cause, orElse, firstOf, devicesFault, listsFault, lineFault, linesFrom, linesFault}
 use Rattle.rules.proofs.RefusalLaws.{clean-cause}
