@@ -22,6 +22,7 @@
 --     Instance      the communities at a rate are such a family; the laws of groups for all positive fractions
 --     LevelLaws     two group lists of one plant, and their numbers of groups
 --     UnionLaws     the community of a group's own device at a lower rate is a union of groups
+--     NetworkLaws   a network's least set is the only one; sums over nodes
 --     CrossingLaws  the rate that the search between two levels finds
 --     EndLaws       the groups at the highest and at the lowest rates
 --     LadderLaws    levels between two rates: one breakpoint, two ladders joined, and the hierarchy from a whole ladder
@@ -61,3 +62,4 @@ pub mod Statements
 pub mod LevelLaws
 pub mod CrossingLaws
 pub mod UnionLaws
+pub mod NetworkLaws

@@ -10,6 +10,7 @@
 --     Lists       a lent list after a call
 --     Hierarchy   levels, low rates and joining rates
 --     Stretch     what the search between two levels finds; no public contract cites it
+--     Network     a network and its least set, with no plant and no rate; no public contract cites it
 --     Figures     K1 to K12 as a list
 pub mod Plant
 pub mod Cut
@@ -22,4 +23,5 @@ pub mod Refusals
 pub mod Lists
 pub mod Hierarchy
 pub mod Stretch
+pub mod Network
 pub mod Figures
