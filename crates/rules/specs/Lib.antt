@@ -19,6 +19,8 @@
 --     Connected   the connected parts of a plant
 --     Numbers     a sum of numbers
 --     Stretch     what the search between two levels finds
+--     Stretch     what the search between two levels finds; no public contract cites it
+--     Network     a network and its least set, with no plant and no rate; no public contract cites it
 --     Figures     K1 to K12 as a list
 pub mod Plant
 pub mod Cut
@@ -38,4 +40,5 @@ pub mod Order
 pub mod Connected
 pub mod Numbers
 pub mod Stretch
+pub mod Network
 pub mod Figures
