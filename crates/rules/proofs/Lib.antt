@@ -63,3 +63,4 @@ pub mod HierarchyLaws
 pub mod Statements
 pub mod LevelLaws
 pub mod CrossingLaws
+pub mod NetworkLaws

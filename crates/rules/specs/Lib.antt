@@ -22,6 +22,7 @@ pub mod Rates
 pub mod Refusals
 pub mod Lists
 pub mod Numbers
+pub mod Network
 pub mod Hierarchy
 pub mod Stretch
 pub mod Figures

@@ -1,0 +1,11 @@
+-- Laws on plain values for the proofs of this crate's functions.
+--     EndLaws     the ends of a line
+--     IndexLaws   the index of each node's lines, line by line
+--     ReachLaws   the tree that a search has reached, node by node
+--     PathLaws    the way back from a place of the queue: how much can go, and what sending it changes
+--     SpareLaws   what each set costs is what has been sent and what can still leave it: at the start, after a path, at the end
+pub mod EndLaws
+pub mod IndexLaws
+pub mod ReachLaws
+pub mod PathLaws
+pub mod SpareLaws

@@ -1,0 +1,4 @@
+// The network part: the least set of a network that holds a start node. It knows no plant and no rate.
+mod index;
+mod path;
+mod reach;
