@@ -4,8 +4,10 @@
 --     ReachLaws   the tree that a search has reached, node by node
 --     PathLaws    the way back from a place of the queue: how much can go, and what sending it changes
 --     SpareLaws   what each set costs is what has been sent and what can still leave it: at the start, after a path, at the end
+--     LeastLaws   the loops of the least set
 pub mod EndLaws
 pub mod IndexLaws
 pub mod ReachLaws
 pub mod PathLaws
 pub mod SpareLaws
+pub mod LeastLaws
