@@ -46,9 +46,9 @@ pub laid-network : {k : ℕ} {xs ys zs ds : List ℕ} {start room : ℕ} → Net
 laid-network a = record {
   few = a .lines;
   even = a .even;
-  first = λ l b. omega (arith, a .rising l b, a .ends l b, a .few);
-  second = λ l b. omega (arith, a .ends l b, a .few);
-  differ = a .rising;
+  first = λ l b. omega (arith, a .line l b .rising, a .line l b .ends, a .few);
+  second = λ l b. omega (arith, a .line l b .ends, a .few);
+  differ = λ l b. a .line l b .rising;
 }
 
 pub led-found : {xs ys fs rs ws : List ℕ} {d : ℕ} {nodes vias froms marks : List ℕ} {count : ℕ}
@@ -88,7 +88,7 @@ pub record Sending (k : ℕ) (xs ys zs ds : List ℕ) (start : ℕ) (fs rs ws no
 -- of a network
 module _ {k : ℕ} {xs ys zs ds : List ℕ} {start room : ℕ} (network : Network k xs ys zs ds start room) where
   pub led-below : {fs rs ws nodes vias froms : List ℕ} {count : ℕ} → Led xs ys fs rs ws start nodes vias froms count → (j : ℕ) → j < count → getD nodes j 0 < k
-  led-below led = nodes-below k (led .way) (rw (led .root) (network .node)) (λ l b. omega (arith, network .rising l b, network .ends l b)) (network .ends)
+  led-below led = nodes-below k (led .way) (rw (led .root) (network .node)) (λ l b. omega (arith, network .line l b .rising, network .line l b .ends)) (λ l b. network .line l b .ends)
 
   module _ {fs rs ws : List ℕ} where
     pub spares-opened : ((l : ℕ) → l < length zs → Copied zs l (getD fs l 0)) → ((l : ℕ) → l < length zs → Copied zs l (getD rs l 0))
@@ -98,9 +98,9 @@ module _ {k : ℕ} {xs ys zs ds : List ℕ} {start room : ℕ} (network : Networ
 
     module _ {sent : ℕ} (spares : Spares k xs ys zs ds start fs rs ws sent) where
       pub spares-small : (l : ℕ) → l < length xs → getD fs l 0 + getD rs l 0 < 2 ^ 63
-      spares-small l b = omega (arith, spares .whole l b, network .width l b)
+      spares-small l b = omega (arith, spares .whole l b, network .line l b .width)
 
       pub sent-small : sent ≤ 1152 * 2 ^ 50
       sent-small =
           le-trans (spares-limit spares)
-          (cost-most k xs ys zs ds _ (network .even) (sym (network .even) ∙ network .even′) (network .lines) (network .width) (network .few) (network .drain))
+          (cost-most k xs ys zs ds _ (network .even) (sym (network .even) ∙ network .even′) (network .lines) (λ l b. network .line l b .width) (network .few) (network .drain))

@@ -11,15 +11,19 @@ use Rattle.rules.specs.Groups.{table}
 use Rattle.rules.specs.Lists.{over}
 use Rattle.rules.specs.Network.{IsLeast}
 
+-- a line of a network with k nodes: its first end is below the second, both are nodes, and its width is at most 2⁵⁰
+pub record LineFits (k : ℕ) (xs ys zs : List ℕ) (l : ℕ) : Type 0 where
+  pub rising : getD xs l 0 < getD ys l 0
+  pub ends : getD ys l 0 < k
+  pub width : getD zs l 0 ≤ 2 ^ 50
+
 -- a network that is taken: at most 128 nodes and 1,024 lines, three lists of one length, each first end below the second and both below k, no width and no drain over 2⁵⁰, a start that is a node, and room for k marks
 pub record Network (k : ℕ) (xs ys zs ds : List ℕ) (start room : ℕ) : Type 0 where
   pub few : k ≤ 128
   pub lines : length xs ≤ 1024
   pub even : length xs ≡ length ys
   pub even′ : length xs ≡ length zs
-  pub rising : (l : ℕ) → l < length xs → getD xs l 0 < getD ys l 0
-  pub ends : (l : ℕ) → l < length xs → getD ys l 0 < k
-  pub width : (l : ℕ) → l < length xs → getD zs l 0 ≤ 2 ^ 50
+  pub line : (l : ℕ) → l < length xs → LineFits k xs ys zs l
   pub drains : k ≤ length ds
   pub drain : (v : ℕ) → v < k → getD ds v 0 ≤ 2 ^ 50
   pub node : start < k

@@ -72,7 +72,7 @@ fn advance(
 }
 
 // Marks 1 the nodes of the least set that holds the start, and 0 the others.
-fn least(
+pub fn least(
     k: usize,
     firsts: &[usize],
     seconds: &[usize],
