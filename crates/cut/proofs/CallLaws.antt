@@ -11,13 +11,15 @@ use borrow.Author.Tests.{eq-eqb, ne-eqb, le-leb, lt-leb, le-ltb, lt-ltb}
 use lib.Dec.{eqb, lit≤}
 use lib.ListN.{length, getD, replicate}
 use Rattle.rules.specs.declared.Refusal.{Refusal}
-use Rattle.rules.specs.Plant.{Plant, plantOf, Sound}
-use Rattle.rules.specs.Cut.{Devices, Agree, size, out}
+use Rattle.rules.specs.Plant.{Plant, plantOf}
+use Rattle.rules.specs.Accepted.{Sound, Accepted}
+use Rattle.rules.specs.Cut.{Devices, size, out}
+use Rattle.rules.specs.Sets.{Agree}
 use Rattle.rules.specs.Community.{community, communityIn}
 use Rattle.rules.specs.Groups.{table}
 use Rattle.rules.specs.Sweep.{sweep}
 use Rattle.rules.specs.Rates.{rateOk}
-use Rattle.rules.specs.Refusals.{done, cause, orElse, firstOf, rateFault, deviceFault, roomFault, afterPlant, about, nothing, plantSays, plantFault, Accepted}
+use Rattle.rules.specs.Refusals.{done, cause, orElse, firstOf, rateFault, deviceFault, roomFault, afterPlant, about, nothing, plantSays, plantFault}
 use Rattle.rules.proofs.RefusalLaws.{done-next, call-is, call-plant, call-rest, accepted-sound}
 use Rattle.rules.proofs.Communities.{fence-off}
 use Rattle.rules.proofs.Sweep.{sweep-takes, sweep-passes, sweep-keeps}

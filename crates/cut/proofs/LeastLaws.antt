@@ -19,7 +19,7 @@ use lib.ListN.{length, getD, set, length-set}
 use lib.Seq.{getD-set-same, getD-set-other}
 use Rattle.rules.specs.Plant.{plantOf}
 use Rattle.rules.specs.Community.{communityIn}
-use Rattle.rules.specs.Refusals.{Accepted}
+use Rattle.rules.specs.Accepted.{Accepted}
 use Rattle.rules.proofs.RefusalLaws.{accepted-sound}
 use Rattle.cut.specs.Calls.{fenceOf}
 use Rattle.cut.specs.Search.{Laid, Way, Found, Scan, Led, Sent, Spares}

@@ -9,8 +9,10 @@ use borrow.Author.Tests.{eqb-true, eqb-false, leb-true, leb-false}
 use lib.Dec.{eqb, leb}
 use lib.ListN.{length}
 use Rattle.rules.specs.declared.Refusal.{Refusal}
-use Rattle.rules.specs.Plant.{plantOf, Sound}
-use Rattle.rules.specs.Cut.{Devices, Agree, out, size}
+use Rattle.rules.specs.Plant.{plantOf}
+use Rattle.rules.specs.Accepted.{Sound}
+use Rattle.rules.specs.Cut.{Devices, out, size}
+use Rattle.rules.specs.Sets.{Agree}
 use Rattle.rules.specs.Community.{community}
 use Rattle.rules.specs.Rates.{rateOk, Same}
 use Rattle.rules.specs.Refusals.{rateFault, plantFault}

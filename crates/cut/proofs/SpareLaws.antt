@@ -16,9 +16,12 @@ use borrow.Author.Tests.{eqb-true, eq-eqb}
 use lib.Dec.{eqb}
 use lib.ListN.{length, getD, set}
 use lib.Seq.{ext-getD, getD-set-same, getD-set-other}
-use Rattle.rules.specs.Plant.{linesOf, plantOf, Sound}
-use Rattle.rules.specs.Cut.{Devices, Inside, crossing, out, sizeAt, size, cost}
-use Rattle.rules.specs.Community.{communityIn, IsCommunityIn}
+use Rattle.rules.specs.Plant.{linesOf, plantOf}
+use Rattle.rules.specs.Accepted.{Sound}
+use Rattle.rules.specs.Cut.{Devices, crossing, out, sizeAt, size, cost}
+use Rattle.rules.specs.Sets.{Inside}
+use Rattle.rules.specs.Community.{communityIn}
+use Rattle.rules.specs.CommunityIs.{IsCommunityIn}
 use Rattle.rules.specs.Groups.{table}
 use Rattle.rules.specs.Numbers.{sum}
 use Rattle.rules.proofs.SetLaws.{cond-most}

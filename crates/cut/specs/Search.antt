@@ -9,7 +9,8 @@ use mathlib.Core.List.{List}
 use lib.Dec.{eqb}
 use lib.ListN.{length, getD, set}
 use Rattle.rules.specs.Plant.{plantOf}
-use Rattle.rules.specs.Cut.{Devices, Inside, cost}
+use Rattle.rules.specs.Cut.{Devices, cost}
+use Rattle.rules.specs.Sets.{Inside}
 use Rattle.rules.specs.Numbers.{sum}
 use Rattle.cut.specs.Calls.{fenceOf}
 

@@ -1,5 +1,8 @@
 // The check of a plant, document 01, "The plant" and "Refusal numbers" 1 to 8.
+use rules::DEVICES;
+use rules::LINES;
 use rules::Refusal;
+use rules::SIGNALS;
 ghost use mathlib.Core.Path.{_≡_};
 ghost use mathlib.Core.Bool.{_||_};
 ghost use lib.Dec.{leb, ltb, eqb};
@@ -30,7 +33,7 @@ fn rising(firsts: &[usize], seconds: &[usize], i: usize) -> bool
 fn off_range(s: usize) -> bool
     ensures { λ r. ⌜ r ≡ (eqb s 0 || ltb 65535 s) ⌝ }
 {
-    s == 0 || 65535 < s
+    s == 0 || SIGNALS < s
 }
 
 // The first faulty line: the loop is left from inside the rule that a line breaks.
@@ -80,7 +83,7 @@ pub fn check_plant(n: usize, firsts: &[usize], seconds: &[usize], signals: &[usi
             place: 0,
         };
     }
-    if 128 < n {
+    if DEVICES < n {
         return Refusal {
             number: 2,
             place: 0,
@@ -99,7 +102,7 @@ pub fn check_plant(n: usize, firsts: &[usize], seconds: &[usize], signals: &[usi
             place: 0,
         };
     }
-    if 1024 < lines {
+    if LINES < lines {
         return Refusal {
             number: 4,
             place: 0,

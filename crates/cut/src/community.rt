@@ -3,6 +3,8 @@ use crate::check::check_plant;
 use crate::index::index_lines;
 use crate::least::least;
 use crate::rate::Rate;
+use rules::DEVICES;
+use rules::LINES;
 ghost use mathlib.Core.Path.{_≡_};
 ghost use mathlib.Core.Bool.{true, cond};
 ghost use lib.Dec.{eqb};
@@ -13,7 +15,7 @@ ghost use Rattle.rules.specs.Cut.{size, out};
 ghost use Rattle.rules.specs.Community.{community};
 ghost use Rattle.rules.specs.Groups.{table};
 ghost use Rattle.rules.specs.Rates.{rateOk};
-ghost use Rattle.rules.specs.Refusals.{Accepted};
+ghost use Rattle.rules.specs.Accepted.{Accepted};
 ghost use Rattle.rules.specs.Lists.{over};
 ghost use Rattle.rules.specs.Numbers.{sum};
 ghost use Rattle.cut.specs.Calls.{marksOf, communityAnswer, communityMarks};
@@ -27,7 +29,7 @@ pub struct Answer {
 }
 
 // The first n marks are filled in.
-fn copy_marks(n: usize, mark: &[u8; 128], marks: &mut [u8])
+fn copy_marks(n: usize, mark: &[u8; DEVICES], marks: &mut [u8])
     requires { ⌜ (n ≤ 128) × (n ≤ length (now marks)) ⌝ }
     ensures { λ _. ⌜ now (marks .exit) ≡ over (table n (λ v. getD (now (mark .entry)) v 0)) (now (marks .entry)) ⌝ }
 {
@@ -39,7 +41,7 @@ fn copy_marks(n: usize, mark: &[u8; 128], marks: &mut [u8])
 }
 
 // How many of the first n devices are marked.
-fn count_marks(n: usize, mark: &[u8; 128]) -> usize
+fn count_marks(n: usize, mark: &[u8; DEVICES]) -> usize
     requires { ⌜ (n ≤ 128) × ((v : ℕ) → v < n → getD (now mark) v 0 ≤ 1) ⌝ }
     ensures { λ r. ⌜ r ≡ sum n (λ v. getD (now (mark .entry)) v 0) ⌝ }
 {
@@ -57,7 +59,7 @@ fn crossing_signals(
     firsts: &[usize],
     seconds: &[usize],
     signals: &[usize],
-    mark: &[u8; 128],
+    mark: &[u8; DEVICES],
     l: usize,
 ) -> usize
     requires { ⌜ (l < length (now firsts)) × (length (now firsts) ≡ length (now seconds)) × (length (now seconds) ≡ length (now signals)) ⌝ }
@@ -73,7 +75,12 @@ fn crossing_signals(
 }
 
 // The signals on lines whose two ends are marked differently.
-fn cut_signals(firsts: &[usize], seconds: &[usize], signals: &[usize], mark: &[u8; 128]) -> usize
+fn cut_signals(
+    firsts: &[usize],
+    seconds: &[usize],
+    signals: &[usize],
+    mark: &[u8; DEVICES],
+) -> usize
     requires { ⌜ (length (now firsts) ≡ length (now seconds)) × (length (now seconds) ≡ length (now signals)) × (length (now firsts) ≤ 1024) ⌝ }
     requires { ⌜ ((l : ℕ) → l < length (now firsts) → (getD (now firsts) l 0 < 128) × (getD (now seconds) l 0 < 128) × (getD (now signals) l 0 ≤ 65535)) ⌝ }
     ensures { λ r. ⌜ r ≡ sum (length (now (firsts .entry))) (λ l. cond (eqb (getD (now (mark .entry)) (getD (now (firsts .entry)) l 0) 0) (getD (now (mark .entry)) (getD (now (seconds .entry)) l 0) 0)) 0 (getD (now (signals .entry)) l 0)) ⌝ }
@@ -103,9 +110,9 @@ fn fill_community(
     ensures { λ r. ⌜ r ≡ record { number = 0; place = 0; size = size (plantOf n (now (firsts .entry)) (now (seconds .entry)) (now (signals .entry))) (community (plantOf n (now (firsts .entry)) (now (seconds .entry)) (now (signals .entry))) p q device); out = out (plantOf n (now (firsts .entry)) (now (seconds .entry)) (now (signals .entry)) .lines) (community (plantOf n (now (firsts .entry)) (now (seconds .entry)) (now (signals .entry))) p q device) } ⌝ }
     ensures { λ _. ⌜ now (marks .exit) ≡ over (marksOf n (community (plantOf n (now (firsts .entry)) (now (seconds .entry)) (now (signals .entry))) p q device)) (now (marks .entry)) ⌝ }
 {
-    let mut last = [0usize; 128];
-    let mut before_first = [0usize; 1024];
-    let mut before_second = [0usize; 1024];
+    let mut last = [0usize; DEVICES];
+    let mut before_first = [0usize; LINES];
+    let mut before_second = [0usize; LINES];
     index_lines(
         firsts,
         seconds,
@@ -113,8 +120,8 @@ fn fill_community(
         &mut before_first,
         &mut before_second,
     );
-    let fence = [0usize; 128];
-    let mut mark = [0u8; 128];
+    let fence = [0usize; DEVICES];
+    let mut mark = [0u8; DEVICES];
     least(
         n,
         firsts,

@@ -2,6 +2,8 @@
 use crate::path::narrowest;
 use crate::path::send;
 use crate::reach::search;
+use rules::DEVICES;
+use rules::LINES;
 ghost use mathlib.Core.Path.{_≡_};
 ghost use mathlib.Core.Bool.{true, false, cond};
 ghost use mathlib.Core.List.{List};
@@ -10,7 +12,7 @@ ghost use Prim.Native.Nat.{ℕ, _+_, _*_, _≤_, _<_, _^_};
 ghost use Rattle.rules.specs.Plant.{plantOf};
 ghost use Rattle.rules.specs.Community.{communityIn};
 ghost use Rattle.rules.specs.Rates.{rateOk};
-ghost use Rattle.rules.specs.Refusals.{Accepted};
+ghost use Rattle.rules.specs.Accepted.{Accepted};
 ghost use Rattle.cut.specs.Calls.{fenceOf};
 ghost use Rattle.cut.specs.Search.{Laid, Lasts, Priors, Led, Spares};
 
@@ -56,12 +58,12 @@ fn advance(
     firsts: &[usize],
     seconds: &[usize],
     fence: &[usize],
-    forth: &mut [usize; 1024],
-    back: &mut [usize; 1024],
+    forth: &mut [usize; LINES],
+    back: &mut [usize; LINES],
     drain: &mut [usize],
-    node: &[usize; 128],
-    via: &[usize; 128],
-    from: &[usize; 128],
+    node: &[usize; DEVICES],
+    via: &[usize; DEVICES],
+    from: &[usize; DEVICES],
     d: usize,
     count: usize,
 ) -> usize
@@ -96,10 +98,10 @@ pub fn least(
     q: usize,
     fence: &[usize],
     d: usize,
-    last: &[usize; 128],
-    before_first: &[usize; 1024],
-    before_second: &[usize; 1024],
-    mark: &mut [u8; 128],
+    last: &[usize; DEVICES],
+    before_first: &[usize; LINES],
+    before_second: &[usize; LINES],
+    mark: &mut [u8; DEVICES],
 )
     requires { ⌜ Accepted n (now firsts) (now seconds) (now signals) ⌝ }
     requires { ⌜ (rateOk p q ≡ true) × (d < n) × (n ≤ length (now fence)) ⌝ }
@@ -107,12 +109,12 @@ pub fn least(
     requires { ⌜ Priors (now firsts) (now seconds) (length (now firsts)) (now «before_first») (now «before_second») ⌝ }
     ensures { λ _. ⌜ ((v : ℕ) → v < n → getD (now (mark .exit)) v 0 ≡ cond (communityIn (plantOf n (now (firsts .entry)) (now (seconds .entry)) (now (signals .entry))) p q (fenceOf (now (fence .entry)) d) d v) 1 0) ⌝ }
 {
-    let mut forth = [0usize; 1024];
-    let mut back = [0usize; 1024];
-    let mut drain = [0usize; 128];
-    let mut node = [0usize; 128];
-    let mut via = [0usize; 128];
-    let mut from = [0usize; 128];
+    let mut forth = [0usize; LINES];
+    let mut back = [0usize; LINES];
+    let mut drain = [0usize; DEVICES];
+    let mut node = [0usize; DEVICES];
+    let mut via = [0usize; DEVICES];
+    let mut from = [0usize; DEVICES];
     open_lines(signals, q, &mut forth, &mut back);
     open_drains(n, p, fence, d, &mut drain);
     let mut sent = 0;

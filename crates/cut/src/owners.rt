@@ -3,6 +3,8 @@ use crate::check::check_plant;
 use crate::index::index_lines;
 use crate::least::least;
 use crate::rate::Rate;
+use rules::DEVICES;
+use rules::LINES;
 use rules::Refusal;
 ghost use mathlib.Core.Path.{_≡_};
 ghost use mathlib.Core.Bool.{true, cond};
@@ -13,7 +15,7 @@ ghost use Rattle.rules.specs.Plant.{plantOf};
 ghost use Rattle.rules.specs.Community.{communityIn};
 ghost use Rattle.rules.specs.Groups.{table};
 ghost use Rattle.rules.specs.Rates.{rateOk};
-ghost use Rattle.rules.specs.Refusals.{Accepted};
+ghost use Rattle.rules.specs.Accepted.{Accepted};
 ghost use Rattle.cut.specs.Search.{Lasts, Priors};
 ghost use Rattle.rules.specs.Lists.{over};
 ghost use Rattle.cut.specs.Calls.{fenceOf, ownersOf, ownersFault, ownersAfter};
@@ -31,7 +33,7 @@ fn clear_owners(n: usize, owner: &mut [usize])
 }
 
 // Device k becomes the owner of the marked devices among the first n.
-fn paint_owners(n: usize, k: usize, mark: &[u8; 128], owner: &mut [usize])
+fn paint_owners(n: usize, k: usize, mark: &[u8; DEVICES], owner: &mut [usize])
     requires { ⌜ (n ≤ 128) × (n ≤ length (now owner)) ⌝ }
     ensures { λ _. ⌜ now (owner .exit) ≡ over (table n (λ v. cond (eqb (getD (now (mark .entry)) v 0) 1) k (getD (now (owner .entry)) v 0))) (now (owner .entry)) ⌝ }
 {
@@ -54,9 +56,9 @@ fn take_over(
     q: usize,
     fence: &[usize],
     k: usize,
-    last: &[usize; 128],
-    before_first: &[usize; 1024],
-    before_second: &[usize; 1024],
+    last: &[usize; DEVICES],
+    before_first: &[usize; LINES],
+    before_second: &[usize; LINES],
     owner: &mut [usize],
 )
     requires { ⌜ Accepted n (now firsts) (now seconds) (now signals) ⌝ }
@@ -65,7 +67,7 @@ fn take_over(
     requires { ⌜ Priors (now firsts) (now seconds) (length (now firsts)) (now «before_first») (now «before_second») ⌝ }
     ensures { λ _. ⌜ now (owner .exit) ≡ over (table n (λ v. cond (communityIn (plantOf n (now (firsts .entry)) (now (seconds .entry)) (now (signals .entry))) p q (fenceOf (now (fence .entry)) k) k v) k (getD (now (owner .entry)) v 0))) (now (owner .entry)) ⌝ }
 {
-    let mut mark = [0u8; 128];
+    let mut mark = [0u8; DEVICES];
     least(
         n,
         firsts,
@@ -99,9 +101,9 @@ fn fill_owners(
     requires { ⌜ (rateOk p q ≡ true) × (n ≤ length (now fence)) × (n ≤ length (now wanted)) × (n ≤ length (now owner)) ⌝ }
     ensures { λ _. ⌜ now (owner .exit) ≡ over (ownersOf (plantOf n (now (firsts .entry)) (now (seconds .entry)) (now (signals .entry))) p q (now (fence .entry)) (now (wanted .entry))) (now (owner .entry)) ⌝ }
 {
-    let mut last = [0usize; 128];
-    let mut before_first = [0usize; 1024];
-    let mut before_second = [0usize; 1024];
+    let mut last = [0usize; DEVICES];
+    let mut before_first = [0usize; LINES];
+    let mut before_second = [0usize; LINES];
     index_lines(
         firsts,
         seconds,

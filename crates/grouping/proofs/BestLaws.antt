@@ -14,7 +14,7 @@ use borrow.Author.Count.{below-more}
 use Rattle.rules.specs.Plant.{Plant, plantOf}
 use Rattle.rules.specs.Cut.{Devices, size, out}
 use Rattle.rules.specs.Community.{everyone}
-use Rattle.rules.specs.Refusals.{Accepted}
+use Rattle.rules.specs.Accepted.{Accepted}
 use Rattle.rules.proofs.Sums.{size-inside}
 use Rattle.rules.proofs.Bounds.{everyone-size}
 use Rattle.rules.proofs.EndLaws.{out-most}

@@ -8,7 +8,8 @@ use native.Mathlib.Omega.{arith}
 use lib.ListN.{length, getD, replicate}
 use borrow.Author.Tests.{ne-eqb}
 use Rattle.rules.specs.declared.Refusal.{Refusal}
-use Rattle.rules.specs.Plant.{Plant, plantOf, Sound}
+use Rattle.rules.specs.Plant.{Plant, plantOf}
+use Rattle.rules.specs.Accepted.{Sound}
 use Rattle.rules.specs.Groups.{table, groups, distinct}
 use Rattle.rules.specs.Refusals.{done}
 use Rattle.rules.proofs.RefusalLaws.{accepted-sound}

@@ -13,11 +13,12 @@ use native.Mathlib.Nat.{mul-comm, eq-zero-or-pos, le-of-mul-le-mul-right, mul-le
 use native.Mathlib.Omega.{arith}
 use lib.ListN.{getD}
 use borrow.Author.Tests.{eqb-true, eq-eqb}
-use Rattle.rules.specs.Plant.{Plant, Sound, plantOf}
-use Rattle.rules.specs.Cut.{Agree, size, out}
+use Rattle.rules.specs.Plant.{Plant, plantOf}
+use Rattle.rules.specs.Accepted.{Sound, Accepted}
+use Rattle.rules.specs.Cut.{size, out}
+use Rattle.rules.specs.Sets.{Agree}
 use Rattle.rules.specs.Groups.{groupOf, label}
 use Rattle.rules.specs.Rates.{rateOk, Same, Lowest}
-use Rattle.rules.specs.Refusals.{Accepted}
 use Rattle.rules.specs.Stretch.{Crossing}
 use Rattle.rules.proofs.SetLaws.{same-bool}
 use Rattle.rules.proofs.Sums.{agree-size, inside-equal, size-holds}

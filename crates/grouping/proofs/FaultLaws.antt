@@ -10,7 +10,8 @@ use native.Mathlib.Omega.{arith}
 use borrow.Author.Tests.{le-ltb, lt-ltb}
 use Rattle.rules.specs.declared.Refusal.{Refusal}
 use Rattle.rules.specs.Rates.{rateOk}
-use Rattle.rules.specs.Refusals.{done, cause, orElse, firstOf, rateFault, roomFault, afterPlant, about, nothing, plantSays, plantFault, Accepted}
+use Rattle.rules.specs.Refusals.{done, cause, orElse, firstOf, rateFault, roomFault, afterPlant, about, nothing, plantSays, plantFault}
+use Rattle.rules.specs.Accepted.{Accepted}
 use Rattle.rules.proofs.RefusalLaws.{done-next, call-is, call-plant, plant-clean, done-accepted, accepted-done}
 use Rattle.cut.specs.Calls.{ownersFault}
 use Rattle.grouping.specs.Calls.{groupingFault}

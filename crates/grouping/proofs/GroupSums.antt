@@ -18,7 +18,7 @@ use borrow.Author.Tests.{eqb-true, eq-eqb, ne-eqb}
 use Rattle.rules.specs.Plant.{Plant, plantOf}
 use Rattle.rules.specs.Cut.{crossing, size, sizeAt}
 use Rattle.rules.specs.Numbers.{sum}
-use Rattle.rules.specs.Refusals.{Accepted}
+use Rattle.rules.specs.Accepted.{Accepted}
 use Rattle.rules.proofs.SetLaws.{cond-most}
 use Rattle.rules.proofs.PlantLaws.{crossing-most}
 use Rattle.rules.proofs.SumLaws.{sum-most, out-sum, below-sum}

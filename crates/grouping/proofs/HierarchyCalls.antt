@@ -15,9 +15,10 @@ use lib.ListN.{length, getD, drop, length-drop}
 use lib.Seq.{ext-getD, getD-drop}
 use borrow.Author.Tests.{ltb-false, le-ltb}
 use Rattle.rules.specs.declared.Refusal.{Refusal}
-use Rattle.rules.specs.Plant.{Plant, plantOf, Sound}
+use Rattle.rules.specs.Plant.{Plant, plantOf}
+use Rattle.rules.specs.Accepted.{Sound, Accepted}
 use Rattle.rules.specs.Groups.{table, groups, distinct}
-use Rattle.rules.specs.Refusals.{done, cause, orElse, firstOf, roomFault, afterPlant, about, nothing, plantSays, plantFault, Accepted}
+use Rattle.rules.specs.Refusals.{done, cause, orElse, firstOf, roomFault, afterPlant, about, nothing, plantSays, plantFault}
 use Rattle.rules.proofs.SetLaws.{or-off-left, or-off-right}
 use Rattle.rules.proofs.RefusalLaws.{done-next, call-is, call-plant, call-rest, accepted-sound}
 use Rattle.rules.proofs.OrderLaws.{le-or-below}

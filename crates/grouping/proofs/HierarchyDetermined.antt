@@ -14,10 +14,12 @@ use native.Mathlib.Omega.{arith}
 use lib.ListN.{length, getD, take, drop, take-append-drop, length-take}
 use lib.Seq.{take-add, getD-take, ext-getD}
 use Rattle.rules.specs.declared.Refusal.{Refusal}
-use Rattle.rules.specs.Plant.{Plant, plantOf, Sound}
+use Rattle.rules.specs.Plant.{Plant, plantOf}
+use Rattle.rules.specs.Accepted.{Sound, Accepted}
 use Rattle.rules.specs.Groups.{groups}
-use Rattle.rules.specs.Refusals.{orElse, firstOf, afterPlant, about, nothing, plantSays, plantFault, Accepted}
-use Rattle.rules.specs.Hierarchy.{IsHierarchy, Connected, JoinsAt, NeverJoin}
+use Rattle.rules.specs.Refusals.{orElse, firstOf, afterPlant, about, nothing, plantSays, plantFault}
+use Rattle.rules.specs.Hierarchy.{IsHierarchy, JoinsAt, NeverJoin}
+use Rattle.rules.specs.Connected.{Connected}
 use Rattle.rules.proofs.RefusalLaws.{call-is, call-plant, plant-clean, done-accepted, accepted-sound}
 use Rattle.rules.proofs.EndLaws.{accepted-carries}
 use Rattle.rules.proofs.HierarchyLaws.{SameHierarchy, grouping-listed, each-occurs, all-differ, last-connected, hierarchy-determined}

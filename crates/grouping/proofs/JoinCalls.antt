@@ -13,9 +13,10 @@ use native.Mathlib.Omega.{arith}
 use lib.ListN.{getD}
 use borrow.Author.Tests.{le-leb, lt-leb, eq-eqb, ne-eqb}
 use Rattle.rules.specs.declared.Refusal.{Refusal}
-use Rattle.rules.specs.Plant.{Plant, plantOf, Sound}
+use Rattle.rules.specs.Plant.{Plant, plantOf}
+use Rattle.rules.specs.Accepted.{Sound, Accepted}
 use Rattle.rules.specs.Groups.{label}
-use Rattle.rules.specs.Refusals.{done, cause, orElse, firstOf, deviceFault, selfFault, afterPlant, about, nothing, plantSays, plantFault, Accepted}
+use Rattle.rules.specs.Refusals.{done, cause, orElse, firstOf, deviceFault, selfFault, afterPlant, about, nothing, plantSays, plantFault}
 use Rattle.rules.specs.Hierarchy.{JoinsAt}
 use Rattle.rules.proofs.OrderLaws.{le-or-below}
 use Rattle.rules.proofs.RefusalLaws.{done-next, call-is, call-plant, call-rest, plant-clean, done-accepted, accepted-sound}

@@ -9,8 +9,10 @@ use native.Mathlib.Nat.{le-refl}
 use native.Mathlib.Omega.{arith}
 use lib.ListN.{length, getD, replicate, getD-replicate, length-replicate}
 use borrow.Author.Tests.{eq-eqb}
-use Rattle.rules.specs.Plant.{Plant, Sound}
-use Rattle.rules.specs.Cut.{Inside, size}
+use Rattle.rules.specs.Plant.{Plant}
+use Rattle.rules.specs.Accepted.{Sound}
+use Rattle.rules.specs.Cut.{size}
+use Rattle.rules.specs.Sets.{Inside}
 use Rattle.rules.specs.Community.{community, communityIn}
 use Rattle.rules.specs.Groups.{label, groups, table, distinct}
 use Rattle.rules.specs.Sweep.{sweep}

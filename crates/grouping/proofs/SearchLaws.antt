@@ -13,7 +13,8 @@ use native.Mathlib.Nat.{mul-le-mul-right, suc-mul, le-refl, le-of-lt, eq-or-lt-o
 use native.Mathlib.Omega.{arith}
 use lib.ListN.{getD, set, length-set}
 use lib.Seq.{getD-set-same, getD-set-other}
-use Rattle.rules.specs.Plant.{Plant, Sound}
+use Rattle.rules.specs.Plant.{Plant}
+use Rattle.rules.specs.Accepted.{Sound}
 use Rattle.rules.specs.Groups.{table, label, groups, distinct}
 use Rattle.rules.specs.Rates.{Below}
 use Rattle.rules.specs.Stretch.{Ladder}

@@ -7,7 +7,7 @@ use mathlib.Core.List.{List}
 use lib.Dec.{eqb}
 use lib.ListN.{length, getD}
 use Rattle.rules.specs.Plant.{Plant}
-use Rattle.rules.specs.Cut.{Inside, Agree}
+use Rattle.rules.specs.Sets.{Inside, Agree}
 use Rattle.rules.specs.Community.{community}
 use Rattle.rules.specs.Groups.{groupOf, lowest, label, groups, distinct}
 use Rattle.cut.specs.Calls.{fenceOf, wantedIn}

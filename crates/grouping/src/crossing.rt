@@ -1,25 +1,26 @@
 // The rate that splits the stretch between two known levels: of each coarser group that is no finer one the greatest rate at which a
 // finer group's cost crosses its own, and of these the least.
 use cut::rate::Rate;
+use rules::DEVICES;
 ghost use mathlib.Core.Path.{_≡_};
 ghost use Prim.Native.Nat.{ℕ, _-_, _≤_, _<_};
 ghost use lib.ListN.{getD};
 ghost use Rattle.rules.specs.Plant.{Plant, plantOf};
-ghost use Rattle.rules.specs.Refusals.{Accepted};
+ghost use Rattle.rules.specs.Accepted.{Accepted};
 ghost use Rattle.grouping.specs.Stretch.{LabelsBelow, SizesOf, OutsOf, Greatest, LeastOf, CrossingRate, Apart};
 
 // For each label a rate.
 pub struct Rates {
-    pub p: [usize; 128],
-    pub q: [usize; 128],
+    pub p: [usize; DEVICES],
+    pub q: [usize; DEVICES],
 }
 
 // For each label how many of the n devices have it.
-fn sizes_of(n: usize, labels: &[usize; 128]) -> [usize; 128]
+fn sizes_of(n: usize, labels: &[usize; DEVICES]) -> [usize; DEVICES]
     requires { ⌜ (n ≤ 128) × LabelsBelow n (now labels) ⌝ }
     ensures { λ r. ⌜ ((g : Plant) → g .devices ≡ n → SizesOf g (now (labels .entry)) r) ⌝ }
 {
-    let mut sizes = [0usize; 128];
+    let mut sizes = [0usize; DEVICES];
     let mut v = 0;
     while v < n {
         let h = labels[v];
@@ -35,12 +36,12 @@ fn outs_of(
     firsts: &[usize],
     seconds: &[usize],
     signals: &[usize],
-    labels: &[usize; 128],
-) -> [usize; 128]
+    labels: &[usize; DEVICES],
+) -> [usize; DEVICES]
     requires { ⌜ Accepted n (now firsts) (now seconds) (now signals) × LabelsBelow n (now labels) ⌝ }
     ensures { λ r. ⌜ OutsOf (plantOf n (now (firsts .entry)) (now (seconds .entry)) (now (signals .entry))) (now (labels .entry)) r ⌝ }
 {
-    let mut outs = [0usize; 128];
+    let mut outs = [0usize; DEVICES];
     let mut l = 0;
     while l < firsts.len() {
         let a = firsts[l];
@@ -79,12 +80,12 @@ fn greatest(
     firsts: &[usize],
     seconds: &[usize],
     signals: &[usize],
-    finer: &[usize; 128],
-    coarser: &[usize; 128],
-    finer_sizes: &[usize; 128],
-    finer_outs: &[usize; 128],
-    coarser_sizes: &[usize; 128],
-    coarser_outs: &[usize; 128],
+    finer: &[usize; DEVICES],
+    coarser: &[usize; DEVICES],
+    finer_sizes: &[usize; DEVICES],
+    finer_outs: &[usize; DEVICES],
+    coarser_sizes: &[usize; DEVICES],
+    coarser_outs: &[usize; DEVICES],
 ) -> Rates
     requires { ⌜ Accepted n (now firsts) (now seconds) (now signals) ⌝ }
     requires { ⌜ LabelsBelow n (now finer) × LabelsBelow n (now coarser) ⌝ }
@@ -94,8 +95,8 @@ fn greatest(
     requires { ⌜ OutsOf (plantOf n (now firsts) (now seconds) (now signals)) (now coarser) (now «coarser_outs») ⌝ }
     ensures { λ r. ⌜ ((h : ℕ) → h < n → Greatest (plantOf n (now (firsts .entry)) (now (seconds .entry)) (now (signals .entry))) (now (finer .entry)) (now (coarser .entry)) h n (getD (r .p) h 0) (getD (r .q) h 0)) ⌝ }
 {
-    let mut p = [0usize; 128];
-    let mut q = [1usize; 128];
+    let mut p = [0usize; DEVICES];
+    let mut q = [1usize; DEVICES];
     let mut v = 0;
     while v < n {
         let f = finer[v];
@@ -123,10 +124,10 @@ fn least_of(
     firsts: &[usize],
     seconds: &[usize],
     signals: &[usize],
-    finer: &[usize; 128],
-    coarser: &[usize; 128],
-    finer_sizes: &[usize; 128],
-    coarser_sizes: &[usize; 128],
+    finer: &[usize; DEVICES],
+    coarser: &[usize; DEVICES],
+    finer_sizes: &[usize; DEVICES],
+    coarser_sizes: &[usize; DEVICES],
     rates: Rates,
 ) -> Rate
     requires { ⌜ Accepted n (now firsts) (now seconds) (now signals) ⌝ }
@@ -161,8 +162,8 @@ pub fn crossing(
     firsts: &[usize],
     seconds: &[usize],
     signals: &[usize],
-    finer: &[usize; 128],
-    coarser: &[usize; 128],
+    finer: &[usize; DEVICES],
+    coarser: &[usize; DEVICES],
 ) -> Rate
     requires { ⌜ Accepted n (now firsts) (now seconds) (now signals) ⌝ }
     requires { ⌜ ((ap : ℕ) × (aq : ℕ) × (bp : ℕ) × (bq : ℕ) × Apart (plantOf n (now firsts) (now seconds) (now signals)) ap aq bp bq (now finer) (now coarser)) ⌝ }

@@ -2,6 +2,7 @@
 use crate::labels::fill;
 use cut::owners::owners;
 use cut::rate::Rate;
+use rules::DEVICES;
 ghost use mathlib.Core.Path.{_≡_};
 ghost use Rattle.grouping.specs.Calls.{groupingAnswer, labelsAfter};
 
@@ -24,9 +25,9 @@ pub fn groups_at(
     ensures { λ r. ⌜ r ≡ groupingAnswer n (now (firsts .entry)) (now (seconds .entry)) (now (signals .entry)) (rate .p) (rate .q) (now (labels .entry)) ⌝ }
     ensures { λ _. ⌜ now (labels .exit) ≡ labelsAfter n (now (firsts .entry)) (now (seconds .entry)) (now (signals .entry)) (rate .p) (rate .q) (now (labels .entry)) ⌝ }
 {
-    let fence = [0usize; 128];
-    let wanted = [1u8; 128];
-    let mut owner = [0usize; 128];
+    let fence = [0usize; DEVICES];
+    let wanted = [1u8; DEVICES];
+    let mut owner = [0usize; DEVICES];
     let fault = owners(
         n,
         firsts,

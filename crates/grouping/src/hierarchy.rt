@@ -4,6 +4,7 @@ use crate::level::level_at;
 use crate::level::level_between;
 use cut::check::check_plant;
 use cut::rate::Rate;
+use rules::DEVICES;
 ghost use mathlib.Core.Path.{_≡_};
 ghost use mathlib.Core.Bool.{_||_};
 ghost use Prim.Native.Nat.{_+_, _*_, _≤_, _<_};
@@ -11,7 +12,7 @@ ghost use lib.Dec.{ltb};
 ghost use lib.ListN.{length, getD};
 ghost use Rattle.rules.specs.Plant.{plantOf};
 ghost use Rattle.rules.specs.Groups.{table};
-ghost use Rattle.rules.specs.Refusals.{Accepted};
+ghost use Rattle.rules.specs.Accepted.{Accepted};
 ghost use Rattle.grouping.specs.Calls.{rowOf, HierarchyIs, Listed};
 ghost use Rattle.grouping.specs.Stretch.{SomeSpan, Ready, KeptOutside, Searched};
 
@@ -23,7 +24,7 @@ pub struct Levels {
 }
 
 // Row k of the labels becomes a level.
-fn put_row(n: usize, level: &[usize; 128], k: usize, labels: &mut [usize])
+fn put_row(n: usize, level: &[usize; DEVICES], k: usize, labels: &mut [usize])
     requires { ⌜ (n ≤ 128) × (k < n) × (n * n ≤ length (now labels)) ⌝ }
     ensures { λ _. ⌜ KeptOutside (k * n) (k * n + n) (now (labels .entry)) (now (labels .exit)) ⌝ }
     ensures { λ _. ⌜ rowOf n (now (labels .exit)) k ≡ table n (λ v. getD (now (level .entry)) v 0) ⌝ }
@@ -44,10 +45,10 @@ fn search<'a>(
     firsts: &[usize],
     seconds: &[usize],
     signals: &[usize],
-    finer: &'a [usize; 128],
-    owner: &'a [usize; 128],
+    finer: &'a [usize; DEVICES],
+    owner: &'a [usize; DEVICES],
     finer_groups: usize,
-    coarser: &'a [usize; 128],
+    coarser: &'a [usize; DEVICES],
     coarser_groups: usize,
     at: usize,
     labels: &mut [usize],

@@ -10,7 +10,7 @@ ghost use mathlib.Core.Path.{_≡_};
 ghost use Prim.Native.Nat.{_<_};
 ghost use lib.ListN.{getD};
 ghost use Rattle.rules.specs.Plant.{plantOf};
-ghost use Rattle.rules.specs.Refusals.{Accepted};
+ghost use Rattle.rules.specs.Accepted.{Accepted};
 ghost use Rattle.rules.specs.Hierarchy.{JoinsAt};
 ghost use Rattle.grouping.specs.Calls.{pairFault, JoiningIs};
 ghost use Rattle.grouping.specs.Stretch.{SomeLevels};

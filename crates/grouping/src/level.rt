@@ -2,29 +2,30 @@
 use crate::labels::fill;
 use cut::owners::owners;
 use cut::rate::Rate;
+use rules::DEVICES;
 ghost use mathlib.Core.Path.{_≡_};
 ghost use Prim.Native.Nat.{ℕ, _≤_, _<_};
 ghost use mathlib.Core.Bool.{true};
 ghost use lib.ListN.{length};
 ghost use Rattle.rules.specs.Plant.{plantOf};
 ghost use Rattle.rules.specs.Rates.{rateOk};
-ghost use Rattle.rules.specs.Refusals.{Accepted};
+ghost use Rattle.rules.specs.Accepted.{Accepted};
 ghost use Rattle.cut.specs.Calls.{wantedIn};
 ghost use Rattle.grouping.specs.Level.{IsLevel, Enough, ownsItself, Between};
 
 // A level: for each device the lowest device of its group and one whose community the group is, and the number of groups.
 pub struct Level {
-    pub labels: [usize; 128],
-    pub owner: [usize; 128],
+    pub labels: [usize; DEVICES],
+    pub owner: [usize; DEVICES],
     pub groups: usize,
 }
 
 // Marks the devices that own themselves.
-fn marked(n: usize, owner: &[usize; 128]) -> [u8; 128]
+fn marked(n: usize, owner: &[usize; DEVICES]) -> [u8; DEVICES]
     requires { ⌜ n ≤ 128 ⌝ }
     ensures { λ r. ⌜ ((v : ℕ) → v < n → wantedIn r v ≡ ownsItself (now (owner .entry)) v) ⌝ }
 {
-    let mut wanted = [0u8; 128];
+    let mut wanted = [0u8; DEVICES];
     let mut v = 0;
     while v < n {
         if owner[v] == v {
@@ -42,17 +43,17 @@ fn level_inside(
     seconds: &[usize],
     signals: &[usize],
     rate: Rate,
-    fence: &[usize; 128],
-    wanted: &[u8; 128],
+    fence: &[usize; DEVICES],
+    wanted: &[u8; DEVICES],
 ) -> Level
     requires { ⌜ (rateOk (rate .p) (rate .q) ≡ true) × Accepted n (now firsts) (now seconds) (now signals) ⌝ }
     requires { ⌜ (length (now fence) ≡ 128) × (length (now wanted) ≡ 128) ⌝ }
     requires { ⌜ Enough (plantOf n (now firsts) (now seconds) (now signals)) (rate .p) (rate .q) (now fence) (now wanted) ⌝ }
     ensures { λ r. ⌜ IsLevel (plantOf n (now (firsts .entry)) (now (seconds .entry)) (now (signals .entry))) (rate .p) (rate .q) r ⌝ }
 {
-    let mut owner = [0usize; 128];
+    let mut owner = [0usize; DEVICES];
     owners(n, firsts, seconds, signals, rate, fence, wanted, &mut owner);
-    let mut labels = [0usize; 128];
+    let mut labels = [0usize; DEVICES];
     let groups = fill(n, &owner, &mut labels);
     Level {
         labels,
@@ -72,8 +73,8 @@ pub fn level_at(
     requires { ⌜ (rateOk (rate .p) (rate .q) ≡ true) × Accepted n (now firsts) (now seconds) (now signals) ⌝ }
     ensures { λ r. ⌜ IsLevel (plantOf n (now (firsts .entry)) (now (seconds .entry)) (now (signals .entry))) (rate .p) (rate .q) r ⌝ }
 {
-    let fence = [0usize; 128];
-    let wanted = [1u8; 128];
+    let fence = [0usize; DEVICES];
+    let wanted = [1u8; DEVICES];
     level_inside(n, firsts, seconds, signals, rate, &fence, &wanted)
 }
 
@@ -85,8 +86,8 @@ pub fn level_between(
     seconds: &[usize],
     signals: &[usize],
     rate: Rate,
-    owner: &[usize; 128],
-    fence: &[usize; 128],
+    owner: &[usize; DEVICES],
+    fence: &[usize; DEVICES],
 ) -> Level
     requires { ⌜ (rateOk (rate .p) (rate .q) ≡ true) × Accepted n (now firsts) (now seconds) (now signals) ⌝ }
     requires { ⌜ length (now fence) ≡ 128 ⌝ }

@@ -1,4 +1,5 @@
 // The row of one level: a part of the caller's own label list.
+use rules::DEVICES;
 use rules::Refusal;
 ghost use mathlib.Core.Path.{_≡_};
 ghost use Rattle.grouping.specs.Calls.{rowFault, rowShown};
@@ -13,7 +14,7 @@ pub fn check_row(labels: &[usize], n: usize, levels: usize, k: usize) -> Refusal
             place: 0,
         };
     }
-    if 128 < n {
+    if DEVICES < n {
         return Refusal {
             number: 2,
             place: 0,

@@ -10,9 +10,12 @@ use native.Mathlib.Nat.{le-refl, le-step, le-trans, le-of-suc-le, lt-suc-self}
 use native.Mathlib.Omega.{arith}
 use lib.Dec.{ltb, eqb}
 use borrow.Author.Tests.{ltb-true, ltb-false, eqb-true, eqb-false, lt-ltb, le-ltb, eq-eqb, ne-eqb}
-use Rattle.rules.specs.Plant.{Plant, Sound}
-use Rattle.rules.specs.Cut.{Devices, size, cost, Inside, Agree}
-use Rattle.rules.specs.Community.{with, sets, everyone, better, best, community, within, fenced, communityIn, IsCommunityIn, IsCommunity}
+use Rattle.rules.specs.Plant.{Plant}
+use Rattle.rules.specs.Accepted.{Sound}
+use Rattle.rules.specs.Cut.{Devices, size, cost}
+use Rattle.rules.specs.Sets.{Inside, Agree}
+use Rattle.rules.specs.Community.{with, sets, everyone, better, best, community, within, fenced, communityIn}
+use Rattle.rules.specs.CommunityIs.{IsCommunityIn, IsCommunity}
 use Rattle.rules.proofs.SetLaws.{and-left, and-right, below-suc}
 use Rattle.rules.proofs.Sums.{agree-size, agree-cost}
 

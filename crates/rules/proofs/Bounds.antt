@@ -8,9 +8,12 @@ use native.Mathlib.Nat.{lt-of-not-le, mul-add, mul-sub, mul-le-mul-left, min-le-
 use native.Mathlib.Numerals.{add-one}
 use native.Mathlib.Omega.{arith}
 use borrow.Author.Tests.{lt-ltb}
-use Rattle.rules.specs.Plant.{Line, Plant, EndsBelow, Sound}
-use Rattle.rules.specs.Cut.{Devices, crossing, out, sizeAt, sizeBelow, size, cost, Inside, Agree, minus, between}
-use Rattle.rules.specs.Community.{everyone, community, IsCommunity}
+use Rattle.rules.specs.Plant.{Line, Plant}
+use Rattle.rules.specs.Accepted.{EndsBelow, Sound}
+use Rattle.rules.specs.Cut.{Devices, crossing, out, sizeAt, sizeBelow, size, cost}
+use Rattle.rules.specs.Sets.{Inside, Agree, minus, between}
+use Rattle.rules.specs.Community.{everyone, community}
+use Rattle.rules.specs.CommunityIs.{IsCommunity}
 use Rattle.rules.proofs.SetLaws.{and-left}
 use Rattle.rules.proofs.Sums.{meet, agree-size, size-minus, size-holds}
 use Rattle.rules.proofs.Best.{community-is}

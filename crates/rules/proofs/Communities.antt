@@ -6,9 +6,12 @@ use mathlib.Core.Bool.{Bool, true, false, not, _||_}
 use mathlib.Core.Logic.{_⊎_, inl, inr}
 use native.Mathlib.Nat.{le-trans, one-le-mul}
 use native.Mathlib.Omega.{arith}
-use Rattle.rules.specs.Plant.{Plant, Sound}
-use Rattle.rules.specs.Cut.{Devices, size, cost, Inside, Agree, minus}
-use Rattle.rules.specs.Community.{community, communityIn, IsCommunityIn, IsCommunity}
+use Rattle.rules.specs.Plant.{Plant}
+use Rattle.rules.specs.Accepted.{Sound}
+use Rattle.rules.specs.Cut.{Devices, size, cost}
+use Rattle.rules.specs.Sets.{Inside, Agree, minus}
+use Rattle.rules.specs.Community.{community, communityIn}
+use Rattle.rules.specs.CommunityIs.{IsCommunityIn, IsCommunity}
 use Rattle.rules.proofs.SetLaws.{and-left, and-right, or-right, agree-both}
 use Rattle.rules.proofs.Sums.{meet, join, cost-submodular, cost-posimodular, inside-equal, size-holds}
 use Rattle.rules.proofs.Best.{communityIn-is, community-is}

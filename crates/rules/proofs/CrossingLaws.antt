@@ -9,9 +9,12 @@ use mathlib.Core.Path.{_≡_, sym, ap, _∙_}
 use mathlib.Core.Bool.{true}
 use native.Mathlib.Nat.{mul-le-mul-left, mul-le-mul-right, le-of-mul-le-mul-left, le-of-mul-le-mul-right, lt-of-mul-lt-mul-right, sub-add-cancel, lt-of-not-le, le-of-suc-le-suc, mul-sub, one-le-mul}
 use native.Mathlib.Omega.{arith}
-use Rattle.rules.specs.Plant.{Plant, Sound}
-use Rattle.rules.specs.Cut.{Devices, Inside, Agree, out, size, cost}
-use Rattle.rules.specs.Community.{community, IsCommunity}
+use Rattle.rules.specs.Plant.{Plant}
+use Rattle.rules.specs.Accepted.{Sound}
+use Rattle.rules.specs.Cut.{Devices, out, size, cost}
+use Rattle.rules.specs.Sets.{Inside, Agree}
+use Rattle.rules.specs.Community.{community}
+use Rattle.rules.specs.CommunityIs.{IsCommunity}
 use Rattle.rules.specs.Groups.{groupOf, groups}
 use Rattle.rules.specs.Rates.{Below, Same}
 use Rattle.rules.specs.Stretch.{Crossing}

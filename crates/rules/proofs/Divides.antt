@@ -3,7 +3,8 @@
 use mathlib.Core.Path.{_≡_}
 use Prim.Native.Nat.{ℕ, _<_}
 use Rattle.rules.specs.Plant.{Plant}
-use Rattle.rules.specs.Cut.{Inside, size}
+use Rattle.rules.specs.Cut.{size}
+use Rattle.rules.specs.Sets.{Inside}
 use Rattle.rules.specs.Community.{community}
 use Rattle.rules.specs.Groups.{groupOf, label}
 use Rattle.rules.proofs.Family.{Family}

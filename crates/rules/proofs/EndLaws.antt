@@ -10,12 +10,13 @@ use native.Mathlib.Omega.{arith}
 use lib.Dec.{ltb, eqb}
 use lib.ListN.{length, getD}
 use borrow.Author.Tests.{ltb-true, ltb-false, eqb-true, eq-eqb, not-true}
-use Rattle.rules.specs.Plant.{Line, Plant, linesOf, plantOf, Sound}
-use Rattle.rules.specs.Cut.{Devices, crossing, out, sizeAt, sizeBelow, size, cost, Inside, Agree, minus}
+use Rattle.rules.specs.Plant.{Line, Plant, linesOf, plantOf}
+use Rattle.rules.specs.Accepted.{Sound, Accepted}
+use Rattle.rules.specs.Cut.{Devices, crossing, out, sizeAt, sizeBelow, size, cost}
+use Rattle.rules.specs.Sets.{Inside, Agree, minus}
 use Rattle.rules.specs.Community.{community}
 use Rattle.rules.specs.Groups.{groupOf, lowest, table, label, groups}
-use Rattle.rules.specs.Refusals.{Accepted}
-use Rattle.rules.specs.Hierarchy.{Closed, Connected}
+use Rattle.rules.specs.Connected.{Closed, Connected}
 use Rattle.rules.proofs.RefusalLaws.{accepted-sound}
 use Rattle.rules.proofs.SetLaws.{and-left, and-right, agree-both}
 use Rattle.rules.proofs.Sums.{meet, out-submodular, out-posimodular, inside-equal, size-holds}

@@ -4,7 +4,8 @@ use mathlib.Core.Path.{_≡_}
 use mathlib.Core.Bool.{true}
 use mathlib.Core.Logic.{_⊎_}
 use Prim.Native.Nat.{ℕ, _≤_, _<_}
-use Rattle.rules.specs.Cut.{Devices, Inside, Agree}
+use Rattle.rules.specs.Cut.{Devices}
+use Rattle.rules.specs.Sets.{Inside, Agree}
 
 -- each set holds its own device and the sets of all it holds; two that share a device are nested; of nested sets that are not one the outer is larger
 pub record Family (n : ℕ) (weigh : Devices → ℕ) (C : ℕ → Devices) : Type 0 where

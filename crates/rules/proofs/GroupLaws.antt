@@ -9,7 +9,8 @@ use native.Mathlib.Omega.{arith}
 use lib.Dec.{ltb}
 use borrow.Author.Tests.{ltb-true, ltb-false}
 use Rattle.rules.specs.Plant.{Plant}
-use Rattle.rules.specs.Cut.{Devices, Inside, Agree, size}
+use Rattle.rules.specs.Cut.{Devices, size}
+use Rattle.rules.specs.Sets.{Inside, Agree}
 use Rattle.rules.specs.Community.{community}
 use Rattle.rules.specs.Groups.{larger, largest, groupOf}
 use Rattle.rules.proofs.Family.{Family}

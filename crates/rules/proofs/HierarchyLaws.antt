@@ -13,10 +13,12 @@ use mathlib.Core.Logic.{_⊎_, inl, inr, ⊎-elim, _↔_}
 use native.Mathlib.Nat.{le-refl, le-of-lt, le-antisymm, eq-or-lt-of-le, le-suc-iff, le-of-suc-le-suc, lt-irrefl, suc-inj, mul-le-mul}
 use native.Mathlib.Omega.{arith}
 use lib.ListN.{getD}
-use Rattle.rules.specs.Plant.{Plant, Sound}
+use Rattle.rules.specs.Plant.{Plant}
+use Rattle.rules.specs.Accepted.{Sound}
 use Rattle.rules.specs.Groups.{label, groups}
 use Rattle.rules.specs.Rates.{Below, Lowest}
-use Rattle.rules.specs.Hierarchy.{InStretch, IsHierarchy, Connected}
+use Rattle.rules.specs.Hierarchy.{InStretch, IsHierarchy}
+use Rattle.rules.specs.Connected.{Connected}
 use Rattle.rules.proofs.OrderLaws.{le-or-below, at-most-trans, below-at-most}
 use Rattle.rules.proofs.LowestLaws.{lowest-first, lowest-second}
 use Rattle.rules.proofs.LabelLaws.{groups-at}

@@ -5,7 +5,8 @@ use mathlib.Core.Path.{_≡_, refl, sym, _∙_}
 use mathlib.Core.Logic.{_⊎_, inl, inr}
 use native.Mathlib.Nat.{le-refl, le-of-lt, one-le-mul}
 use native.Mathlib.Omega.{arith}
-use Rattle.rules.specs.Plant.{Plant, Sound}
+use Rattle.rules.specs.Plant.{Plant}
+use Rattle.rules.specs.Accepted.{Sound}
 use Rattle.rules.specs.Groups.{label, groups}
 use Rattle.rules.specs.Rates.{Below, Lowest}
 use Rattle.rules.specs.Hierarchy.{JoinsAt, NeverJoin}

@@ -9,7 +9,8 @@ use native.Mathlib.Nat.{le-of-suc-le-suc}
 use native.Mathlib.Omega.{arith}
 use lib.ListN.{length, getD}
 use Rattle.rules.specs.Plant.{Plant}
-use Rattle.rules.specs.Cut.{Devices, Agree, size}
+use Rattle.rules.specs.Cut.{Devices, size}
+use Rattle.rules.specs.Sets.{Agree}
 use Rattle.rules.specs.Community.{community}
 use Rattle.rules.specs.Groups.{groupOf, lowest, table, label, groups}
 use Rattle.rules.proofs.Family.{Family}

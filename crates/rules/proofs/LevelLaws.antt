@@ -14,8 +14,9 @@ use native.Mathlib.Omega.{arith}
 use lib.Dec.{eqb}
 use lib.ListN.{getD}
 use borrow.Author.Tests.{eqb-true, eqb-false, eq-eqb}
-use Rattle.rules.specs.Plant.{Plant, Sound}
-use Rattle.rules.specs.Cut.{Agree}
+use Rattle.rules.specs.Plant.{Plant}
+use Rattle.rules.specs.Accepted.{Sound}
+use Rattle.rules.specs.Sets.{Agree}
 use Rattle.rules.specs.Groups.{groupOf, label, groups, distinct}
 use Rattle.rules.proofs.SetLaws.{cond-most, same-bool, agree-inside, agree-sym, agree-both, below-suc}
 use Rattle.rules.proofs.LabelLaws.{table-agree, lowest-agree, label-le, label-below, label-label, label-same, groups-at}

@@ -12,7 +12,7 @@ use Rattle.rules.specs.Plant.{Plant}
 use Rattle.rules.specs.Cut.{Devices, size}
 use Rattle.rules.specs.Community.{community}
 use Rattle.rules.specs.Groups.{among, label}
-use Rattle.rules.specs.Sweep.{visit, visitAll, sweepOver, Order, lowestWith}
+use Rattle.rules.specs.Order.{visit, visitAll, sweepOver, Order, lowestWith}
 use Rattle.rules.proofs.Family.{Family}
 use Rattle.rules.proofs.SetLaws.{or-right, or-cases}
 use Rattle.rules.proofs.Owners.{Owned, State, state-fewer, visited-all, owner-label}

@@ -12,10 +12,12 @@ use native.Mathlib.Omega.{arith}
 use lib.Dec.{eqb}
 use borrow.Author.Tests.{eqb-true, eq-eqb, ne-eqb}
 use Rattle.rules.specs.Plant.{Plant}
-use Rattle.rules.specs.Cut.{Devices, Inside, Agree, size}
+use Rattle.rules.specs.Cut.{Devices, size}
+use Rattle.rules.specs.Sets.{Inside, Agree}
 use Rattle.rules.specs.Community.{community}
 use Rattle.rules.specs.Groups.{groupOf, label}
-use Rattle.rules.specs.Sweep.{paint, visit, lowestWith}
+use Rattle.rules.specs.Sweep.{paint}
+use Rattle.rules.specs.Order.{visit, lowestWith}
 use Rattle.rules.proofs.Family.{Family}
 use Rattle.rules.proofs.SetLaws.{same-bool, agree-inside}
 use Rattle.rules.proofs.GroupLaws.{group-only}

@@ -13,9 +13,10 @@ use native.Mathlib.Omega.{arith}
 use borrow.Author.Tests.{leb-true, eqb-true}
 use lib.Dec.{eqb}
 use lib.ListN.{length, getD}
-use Rattle.rules.specs.Plant.{Line, linesOf, plantOf, total}
+use Rattle.rules.specs.Plant.{Line, linesOf, plantOf}
+use Rattle.rules.specs.Accepted.{total, Accepted}
 use Rattle.rules.specs.Cut.{Devices, crossing, out}
-use Rattle.rules.specs.Refusals.{rises, Accepted}
+use Rattle.rules.specs.Refusals.{rises}
 use Rattle.rules.proofs.SetLaws.{and-left, and-right, or-cases, below-suc}
 
 -- line i comes before line j: by first end, then second end

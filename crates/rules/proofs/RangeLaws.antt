@@ -5,7 +5,8 @@ use mathlib.Core.Bool.{Bool, true, false, _&&_}
 use native.Mathlib.Omega.{arith}
 use borrow.Author.Tests.{le-leb, leb-true}
 use lib.Dec.{leb}
-use Rattle.rules.specs.Rates.{rateOk, leastRate, largestRate}
+use Rattle.rules.specs.Rates.{rateOk}
+use Rattle.rules.specs.Limits.{leastRate, largestRate}
 use Rattle.rules.proofs.SetLaws.{and-left, and-right}
 
 -- p and q in range

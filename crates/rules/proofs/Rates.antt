@@ -6,9 +6,12 @@ use mathlib.Core.Bool.{Bool, true, false}
 use mathlib.Core.Logic.{_⊎_, inl, inr}
 use native.Mathlib.Nat.{eq-or-lt-of-le, eq-zero-or-pos, mul-add, mul-comm, mul-assoc, mul-left-comm, mul-le-mul-left, mul-lt-mul-of-pos-left, le-of-mul-le-mul-left}
 use native.Mathlib.Omega.{arith}
-use Rattle.rules.specs.Plant.{Plant, Sound}
-use Rattle.rules.specs.Cut.{Devices, out, size, cost, Inside, Agree, minus}
-use Rattle.rules.specs.Community.{community, IsCommunity}
+use Rattle.rules.specs.Plant.{Plant}
+use Rattle.rules.specs.Accepted.{Sound}
+use Rattle.rules.specs.Cut.{Devices, out, size, cost}
+use Rattle.rules.specs.Sets.{Inside, Agree, minus}
+use Rattle.rules.specs.Community.{community}
+use Rattle.rules.specs.CommunityIs.{IsCommunity}
 use Rattle.rules.proofs.SetLaws.{or-right, agree-both}
 use Rattle.rules.proofs.Sums.{meet, join, out-submodular, size-modular, size-minus, size-holds}
 use Rattle.rules.proofs.Best.{community-is}

@@ -12,8 +12,9 @@ use lib.Dec.{leb, eqb}
 use lib.ListN.{length, getD}
 use Rattle.rules.proofs.SetLaws.{and-left, and-right, or-off-left, or-off-right, not-off}
 use Rattle.rules.specs.declared.Refusal.{Refusal}
-use Rattle.rules.specs.Plant.{linesOf, plantOf, EndsBelow, Sound}
-use Rattle.rules.specs.Refusals.{done, cause, orElse, firstOf, devicesFault, listsFault, rises, lineFault, linesFrom, linesFault, Kind, ofText, ofDevices, ofLists, ofLines, afterPlant, fixedOrder, inOrder, nothing, about, plantSays, plantFault, Accepted}
+use Rattle.rules.specs.Plant.{linesOf, plantOf}
+use Rattle.rules.specs.Accepted.{EndsBelow, Sound, Accepted}
+use Rattle.rules.specs.Refusals.{done, cause, orElse, firstOf, devicesFault, listsFault, rises, lineFault, linesFrom, linesFault, Kind, ofText, ofDevices, ofLists, ofLines, afterPlant, fixedOrder, inOrder, nothing, about, plantSays, plantFault}
 
 -- number 0 goes with place 0
 pub record Clean (r : Refusal) : Type 0 where

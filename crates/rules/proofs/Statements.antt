@@ -24,12 +24,15 @@ use mathlib.Core.List.{List}
 use mathlib.Core.Logic.{_↔_, _⊎_, inl, inr, ⊎-elim}
 use native.Mathlib.Nat.{le-of-eq}
 use lib.ListN.{length, getD}
-use Rattle.rules.specs.Plant.{Plant, Sound}
-use Rattle.rules.specs.Cut.{Devices, Inside, Agree, minus, out, size, cost, between}
+use Rattle.rules.specs.Plant.{Plant}
+use Rattle.rules.specs.Accepted.{Sound}
+use Rattle.rules.specs.Cut.{Devices, out, size, cost}
+use Rattle.rules.specs.Sets.{Inside, Agree, minus, between}
 use Rattle.rules.specs.Added.{added}
-use Rattle.rules.specs.Community.{community, IsCommunity}
+use Rattle.rules.specs.Community.{community}
+use Rattle.rules.specs.CommunityIs.{IsCommunity}
 use Rattle.rules.specs.Groups.{groupOf, label, groups, distinct}
-use Rattle.rules.specs.Sweep.{sweepOver, Order, lowestWith}
+use Rattle.rules.specs.Order.{sweepOver, Order, lowestWith}
 use Rattle.rules.proofs.SetLaws.{agree-both}
 use Rattle.rules.proofs.AddedLaws.{cost-added}
 use Rattle.rules.proofs.Best.{community-is}

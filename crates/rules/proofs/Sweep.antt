@@ -9,10 +9,12 @@ use native.Mathlib.Nat.{le-refl, eq-or-lt-of-le, le-of-suc-le-suc}
 use native.Mathlib.Omega.{arith}
 use lib.Dec.{eqb}
 use Rattle.rules.specs.Plant.{Plant}
-use Rattle.rules.specs.Cut.{Devices, Inside, Agree, size}
+use Rattle.rules.specs.Cut.{Devices, size}
+use Rattle.rules.specs.Sets.{Inside, Agree}
 use Rattle.rules.specs.Community.{community}
 use Rattle.rules.specs.Groups.{groupOf, lowest, label}
-use Rattle.rules.specs.Sweep.{paint, sweep, visit, lowestWith}
+use Rattle.rules.specs.Sweep.{paint, sweep}
+use Rattle.rules.specs.Order.{visit, lowestWith}
 use Rattle.rules.proofs.Family.{Family}
 use Rattle.rules.proofs.Owners.{visit-takes, visit-keeps, Owned, State, state-fewer, visited-all, owner-largest, owner-one, owner-self, owner-group, owner-same, owner-label}
 
@@ -98,14 +100,6 @@ module _ (n : ℕ) (weigh : Devices → ℕ) (C : ℕ → Devices) (fam : Family
     -- an owner owns itself
     pub sweep-self : (v : ℕ) → v < n → sweep C wanted n n (sweep C wanted n n v) ≡ sweep C wanted n n v
     sweep-self = owner-self n weigh C fam (s n) sweep-owned
-
--- all devices wanted: each lies in its own community
-abbrev pub everybody : ℕ → Bool
-everybody d = true
-
-pub everybody-covers : (n : ℕ) (weigh : Devices → ℕ) (C : ℕ → Devices) → Family n weigh C
-    → (d : ℕ) → d < n → (r : ℕ) × (r < n) × (everybody r ≡ true) × (C r d ≡ true)
-everybody-covers n weigh C fam d h = (d, h, refl, fam .own d h)
 
 module _ (g : Plant) (p q : ℕ) (fam : Family (g .devices) (size g) (community g p q)) (wanted : ℕ → Bool)
     (cover : (d : ℕ) → d < g .devices → (r : ℕ) × (r < g .devices) × (wanted r ≡ true) × (community g p q r d ≡ true)) where

@@ -1,4 +1,4 @@
--- Document 01, "This is q times the cut of document 004's graph with its added vertex t." Document 004, section 3: "augment G by inserting an artificial vertex t and connecting t to each vertex in G by an edge of costs α". With α = p/q all costs times q are whole numbers, and these are stated here.
+-- Document 01, "This is q times the cut of document 004's graph with its added vertex t." Document 004, section 3: "augment G by inserting an artificial vertex t and connecting t to each vertex in G by an edge of costs α". With α = p/q all costs times q are whole numbers, and these are stated here. No public contract cites this file.
 -- Assumes nothing.
 use Prim.Native.Nat.{ℕ, zero, suc, _*_}
 use mathlib.Core.List.{List, [], _∷_, _++_}

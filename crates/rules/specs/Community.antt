@@ -1,12 +1,11 @@
 -- Document 01, "Cuts, communities, groups", second paragraph.
 -- Assumes nothing.
-use Prim.Native.Nat.{ℕ, zero, suc, _≤_}
-use mathlib.Core.Path.{_≡_}
+use Prim.Native.Nat.{ℕ, zero, suc}
 use mathlib.Core.Bool.{Bool, true, false, not, _&&_, _||_, cond}
 use mathlib.Core.List.{List, [], _∷_, _++_, map}
 use lib.Dec.{ltb, eqb}
 use Rattle.rules.specs.Plant.{Plant}
-use Rattle.rules.specs.Cut.{Devices, Inside, size, cost}
+use Rattle.rules.specs.Cut.{Devices, size, cost}
 
 -- S and the device k
 unfoldable pub with : ℕ → Devices → Devices
@@ -46,16 +45,3 @@ fenced g F i = everyone g i && F i
 -- the same among the sets that lie inside a fence F: the best set that holds d inside F
 unfoldable pub communityIn : Plant → ℕ → ℕ → Devices → ℕ → Devices
 communityIn g p q F d = best g p q (λ S. S d && within (g .devices) S F) (fenced g F) (sets (g .devices))
-
--- the same as a property of a set C: it holds d and lies inside F, no such set costs less, and none that costs no more has fewer devices
-pub record IsCommunityIn (g : Plant) (p q : ℕ) (F : Devices) (d : ℕ) (C : Devices) : Type 0 where
-  pub holds : C d ≡ true
-  pub inside : Inside (g .devices) C F
-  pub least : (T : Devices) → T d ≡ true → Inside (g .devices) T F → cost g p q C ≤ cost g p q T
-  pub fewest : (T : Devices) → T d ≡ true → Inside (g .devices) T F → cost g p q T ≤ cost g p q C → size g C ≤ size g T
-
--- and of the community itself: there is no fence
-pub record IsCommunity (g : Plant) (p q : ℕ) (d : ℕ) (C : Devices) : Type 0 where
-  pub holds : C d ≡ true
-  pub least : (T : Devices) → T d ≡ true → cost g p q C ≤ cost g p q T
-  pub fewest : (T : Devices) → T d ≡ true → cost g p q T ≤ cost g p q C → size g C ≤ size g T

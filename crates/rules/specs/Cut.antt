@@ -1,8 +1,7 @@
 -- Document 01, "Cuts, communities, groups", first paragraph.
 -- Assumes nothing.
-use Prim.Native.Nat.{ℕ, zero, suc, _+_, _*_, _<_}
-use mathlib.Core.Path.{_≡_}
-use mathlib.Core.Bool.{Bool, true, false, not, _&&_, _||_, cond}
+use Prim.Native.Nat.{ℕ, zero, suc, _+_, _*_}
+use mathlib.Core.Bool.{Bool, true, false, cond}
 use mathlib.Core.List.{List, [], _∷_}
 use Rattle.rules.specs.Plant.{Line, Plant}
 
@@ -38,20 +37,3 @@ size g S = sizeBelow g (g .devices) S
 -- "At rate p/q the cost of S is q × out(S) + p × |S|."
 unfoldable pub cost : Plant → ℕ → ℕ → Devices → ℕ
 cost g p q S = q * out (g .lines) S + p * size g S
-
--- each device that is in S is in T
-abbrev pub Inside : ℕ → Devices → Devices → Type 0
-Inside n S T = (i : ℕ) → i < n → S i ≡ true → T i ≡ true
-
--- S and T hold the same devices
-abbrev pub Agree : ℕ → Devices → Devices → Type 0
-Agree n S T = (i : ℕ) → i < n → S i ≡ T i
-
--- the devices of S that are not in T
-abbrev pub minus : Devices → Devices → Devices
-minus S T i = S i && not (T i)
-
--- "the signals between P and the rest of C": on lines with one end in P and the other in Q
-unfoldable pub between : List Line → Devices → Devices → ℕ
-between [] P Q = 0
-between (l ∷ ls) P Q = cond ((P (l .first) && Q (l .second)) || (P (l .second) && Q (l .first))) (l .signals) 0 + between ls P Q

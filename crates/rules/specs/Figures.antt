@@ -1,4 +1,4 @@
--- Document 01, "Figures on each side of a tie": K1 to K12, as one table. `proofs/Figures.antt` proves it.
+-- Document 01, "Figures on each side of a tie": K1 to K12, as one table. `proofs/Figures.antt` proves it. No public contract cites this file.
 -- Assumes nothing.
 use Prim.Native.Nat.{ℕ}
 use mathlib.Core.List.{List, [], _∷_}

@@ -2,10 +2,8 @@
 -- Assumes nothing.
 use Prim.Native.Nat.{ℕ, suc, _-_, _*_, _≤_, _<_}
 use mathlib.Core.Path.{_≡_}
-use mathlib.Core.Bool.{true}
-use mathlib.Core.List.{List, [], _∷_}
-use Rattle.rules.specs.Plant.{Line, Plant}
-use Rattle.rules.specs.Cut.{Devices}
+use mathlib.Core.List.{List}
+use Rattle.rules.specs.Plant.{Plant}
 use Rattle.rules.specs.Groups.{table, label, groups}
 use Rattle.rules.specs.Rates.{Below, Lowest}
 
@@ -33,15 +31,6 @@ pub record IsHierarchy (g : Plant) (count : ℕ) (level : ℕ → List ℕ) (low
   pub falling : (i : ℕ) → suc (suc i) < count → Below (lowP (suc i)) (lowQ (suc i)) (lowP i) (lowQ i)
   pub lowest : (i : ℕ) → suc i < count → Lowest (lowP i) (lowQ i)
   pub denominator : (i : ℕ) → suc i < count → lowQ i ≤ g .devices - 1
-
--- no line leaves S: of each line both ends are in S, or neither
-unfoldable pub Closed : List Line → Devices → Type 0
-Closed [] S = Unit {0}
-Closed (l ∷ ls) S = (S (l .first) ≡ S (l .second)) × Closed ls S
-
--- devices i and j are connected: no set that holds the one, and that no line leaves, lacks the other
-unfoldable pub Connected : Plant → ℕ → ℕ → Type 0
-Connected g i j = (S : Devices) → Closed (g .lines) S → S i ≡ true → S j ≡ true
 
 -- "The joining rate of two different devices is the rate under which they share a group and at which, and above which, they do not. It is answered in lowest terms"
 pub record JoinsAt (g : Plant) (i j p q : ℕ) : Type 0 where

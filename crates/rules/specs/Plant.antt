@@ -1,6 +1,6 @@
 -- Document 01, "The plant".
 -- Assumes nothing.
-use Prim.Native.Nat.{ℕ, _+_, _<_}
+use Prim.Native.Nat.{ℕ}
 use mathlib.Core.List.{List, [], _∷_}
 
 -- "A line joins two devices and carries a whole number of signals."
@@ -24,17 +24,3 @@ linesOf (a ∷ xs) (b ∷ ys) (c ∷ zs) = record { first = a; second = b; signa
 -- the plant that n and the three lists state
 unfoldable pub plantOf : ℕ → List ℕ → List ℕ → List ℕ → Plant
 plantOf n xs ys zs = record { devices = n; lines = linesOf xs ys zs }
-
--- "All signals together": their sum over the lines
-unfoldable pub total : List Line → ℕ
-total [] = 0
-total (l ∷ ls) = l .signals + total ls
-
--- every end of every line is a device
-unfoldable pub EndsBelow : ℕ → List Line → Type 0
-EndsBelow n [] = Unit {0}
-EndsBelow n (l ∷ ls) = (l .first < n) × (l .second < n) × EndsBelow n ls
-
--- a plant whose lines all join devices of it: what number 5 of the check secures
-abbrev pub Sound : Plant → Type 0
-Sound g = EndsBelow (g .devices) (g .lines)

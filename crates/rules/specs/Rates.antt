@@ -9,13 +9,6 @@ use lib.Dec.{leb}
 unfoldable pub rateOk : ℕ → ℕ → Bool
 rateOk p q = leb 1 p && leb p 100000000 && (leb 1 q && leb q 1000)
 
--- "A rate is a kind of value with its own least and largest": 1/1,000 and 100,000,000/1, as p and q
-abbrev pub leastRate : ℕ × ℕ
-leastRate = (1, 1000)
-
-abbrev pub largestRate : ℕ × ℕ
-largestRate = (100000000, 1)
-
 -- "fractions compare by cross products": p/q is below r/s
 abbrev pub Below : ℕ → ℕ → ℕ → ℕ → Type 0
 Below p q r s = p * s < r * q

@@ -1,7 +1,6 @@
 -- Document 01, "Refusal numbers": each cause, and the first in the fixed order.
 -- Assumes nothing.
-use Prim.Native.Nat.{ℕ, zero, suc, _≤_, _<_}
-use mathlib.Core.Path.{_≡_}
+use Prim.Native.Nat.{ℕ, zero, suc}
 use mathlib.Core.Bool.{Bool, true, not, _&&_, _||_, cond}
 use mathlib.Core.List.{List, [], _∷_, map}
 use lib.Dec.{leb, ltb, eqb}
@@ -139,17 +138,3 @@ plantSays n xs ys zs =
 -- what the check of a plant answers
 unfoldable pub plantFault : ℕ → List ℕ → List ℕ → List ℕ → Refusal
 plantFault n xs ys zs = inOrder (plantSays n xs ys zs)
-
--- what "The plant" accepts, quantity by quantity: devices, lists, and of each line its ends, its place after the one before, and its signals
-pub record Accepted (n : ℕ) (xs ys zs : List ℕ) : Type 0 where
-  pub some-device : 1 ≤ n
-  pub most-devices : n ≤ 128
-  pub one-length : length xs ≡ length ys
-  pub one-length′ : length ys ≡ length zs
-  pub most-lines : length xs ≤ 1024
-  pub first-device : (k : ℕ) → k < length xs → getD xs k 0 < n
-  pub second-device : (k : ℕ) → k < length xs → getD ys k 0 < n
-  pub first-below-second : (k : ℕ) → k < length xs → getD xs k 0 < getD ys k 0
-  pub rising : (k : ℕ) → k < length xs → rises xs ys k ≡ true
-  pub some-signal : (k : ℕ) → k < length xs → 1 ≤ getD zs k 0
-  pub most-signals : (k : ℕ) → k < length xs → getD zs k 0 ≤ 65535

@@ -7,7 +7,8 @@ use mathlib.Core.Bool.{false}
 use mathlib.Core.List.{List, [], _∷_}
 use lib.ListN.{length, getD, length-append}
 use borrow.Author.Tests.{le-ltb}
-use Rattle.rules.specs.Refusals.{done, cause, orElse, linesFault, plantFault, Accepted}
+use Rattle.rules.specs.Refusals.{done, cause, orElse, linesFault, plantFault}
+use Rattle.rules.specs.Accepted.{Accepted}
 use Rattle.rules.proofs.RefusalLaws.{done-next, Clean, clean-cause, clean-orElse, orElse-left, orElse-right, lines-clean, devices-clean, lists-clean, plant-is, done-accepted}
 use Rattle.text.specs.Lines.{endLine, rowText}
 use Rattle.text.specs.Form.{rowsText, plantText, form}

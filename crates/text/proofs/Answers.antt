@@ -9,7 +9,8 @@ use lib.Dec.{ltb}
 use lib.ListN.{length, length-append}
 use borrow.Author.Tests.{ne-eqb, lt-ltb, le-ltb}
 use Rattle.rules.specs.declared.Refusal.{Refusal}
-use Rattle.rules.specs.Refusals.{done, cause, orElse, firstOf, roomFault, afterPlant, nothing, about, plantSays, plantFault, Accepted}
+use Rattle.rules.specs.Refusals.{done, cause, orElse, firstOf, roomFault, afterPlant, nothing, about, plantSays, plantFault}
+use Rattle.rules.specs.Accepted.{Accepted}
 use Rattle.rules.specs.Lists.{over}
 use Rattle.rules.proofs.RefusalLaws.{done-next, call-is, Clean, clean-cause, orElse-done, orElse-first, plant-clean, done-accepted}
 use Rattle.text.specs.Numbers.{digits}
