@@ -16,7 +16,8 @@ use lib.Dec.{eqb}
 use lib.ListN.{length, getD, set}
 use lib.Seq.{getD-set-same, getD-set-other}
 use Rattle.rules.specs.Plant.{linesOf}
-use Rattle.rules.specs.Cut.{Devices, Inside, crossing, out}
+use Rattle.rules.specs.Cut.{Devices, crossing, out}
+use Rattle.rules.specs.Sets.{Inside}
 use Rattle.rules.specs.Network.{drained, netCost, IsLeast}
 use Rattle.rules.specs.Numbers.{sum}
 use Rattle.rules.proofs.SetLaws.{cond-most}
