@@ -2,6 +2,8 @@
 use crate::index::index_lines;
 use crate::judge::fits;
 use crate::least::least;
+use rules::DEVICES;
+use rules::LINES;
 ghost use mathlib.Core.Path.{_≡_};
 ghost use Prim.Native.Nat.{_≤_};
 ghost use lib.ListN.{length, getD};
@@ -10,7 +12,7 @@ ghost use Rattle.rules.specs.Lists.{over};
 ghost use Rattle.network.specs.Calls.{LeastIs};
 
 // The first k marks are filled in.
-fn copy_marks(k: usize, mark: &[u8; 128], marks: &mut [u8])
+fn copy_marks(k: usize, mark: &[u8; DEVICES], marks: &mut [u8])
     requires { ⌜ (k ≤ 128) × (k ≤ length (now marks)) ⌝ }
     ensures { λ _. ⌜ now (marks .exit) ≡ over (table k (λ v. getD (now (mark .entry)) v 0)) (now (marks .entry)) ⌝ }
 {
@@ -37,9 +39,9 @@ pub fn least_set(
     if !fits(k, firsts, seconds, widths, drains, start, marks.len()) {
         return false;
     }
-    let mut last = [0usize; 128];
-    let mut before_first = [0usize; 1024];
-    let mut before_second = [0usize; 1024];
+    let mut last = [0usize; DEVICES];
+    let mut before_first = [0usize; LINES];
+    let mut before_second = [0usize; LINES];
     index_lines(
         firsts,
         seconds,
@@ -47,7 +49,7 @@ pub fn least_set(
         &mut before_first,
         &mut before_second,
     );
-    let mut mark = [0u8; 128];
+    let mut mark = [0u8; DEVICES];
     least(
         k,
         firsts,

@@ -1,5 +1,7 @@
 // An index of each device's lines. `last[v]` is one more than the last line of device v, and 0 where it has none;
 // `before_first[l]` and `before_second[l]` say the same of the lines below l, for the first and for the second end of line l.
+use rules::DEVICES;
+use rules::LINES;
 ghost use lib.ListN.{length};
 ghost use mathlib.Core.Path.{_≡_};
 ghost use mathlib.Core.Bool.{true};
@@ -35,9 +37,9 @@ fn index_line(
 pub fn index_lines(
     firsts: &[usize],
     seconds: &[usize],
-    last: &mut [usize; 128],
-    before_first: &mut [usize; 1024],
-    before_second: &mut [usize; 1024],
+    last: &mut [usize; DEVICES],
+    before_first: &mut [usize; LINES],
+    before_second: &mut [usize; LINES],
 )
     requires { ⌜ Laid (now firsts) (now seconds) ⌝ }
     requires { ⌜ Lasts (now firsts) (now seconds) 0 (now last) ⌝ }
@@ -55,8 +57,8 @@ pub fn index_lines(
 pub fn line_before(
     firsts: &[usize],
     seconds: &[usize],
-    before_first: &[usize; 1024],
-    before_second: &[usize; 1024],
+    before_first: &[usize; LINES],
+    before_second: &[usize; LINES],
     v: usize,
     l: usize,
 ) -> usize

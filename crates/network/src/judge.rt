@@ -1,4 +1,6 @@
 // Whether what is handed in is a network.
+use rules::DEVICES;
+use rules::LINES;
 ghost use mathlib.Core.Path.{_≡_};
 ghost use mathlib.Core.Bool.{true, false};
 ghost use Prim.Native.Nat.{ℕ, _≤_, _<_, _^_};
@@ -60,10 +62,10 @@ pub fn fits(
     ensures { λ r. ⌜ (r ≡ false → Network k (now (firsts .entry)) (now (seconds .entry)) (now (widths .entry)) (now (drains .entry)) start room → ⊥) ⌝ }
 {
     let lines = firsts.len();
-    if 128 < k {
+    if DEVICES < k {
         return false;
     }
-    if 1024 < lines {
+    if LINES < lines {
         return false;
     }
     if lines != seconds.len() {

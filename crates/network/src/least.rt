@@ -2,6 +2,8 @@
 use crate::path::narrowest;
 use crate::path::send;
 use crate::reach::search;
+use rules::DEVICES;
+use rules::LINES;
 ghost use mathlib.Core.Path.{_≡_};
 ghost use mathlib.Core.Bool.{cond};
 ghost use mathlib.Core.List.{List};
@@ -44,12 +46,12 @@ fn open_drains(k: usize, drains: &[usize], drain: &mut [usize])
 fn advance(
     firsts: &[usize],
     seconds: &[usize],
-    forth: &mut [usize; 1024],
-    back: &mut [usize; 1024],
+    forth: &mut [usize; LINES],
+    back: &mut [usize; LINES],
     drain: &mut [usize],
-    node: &[usize; 128],
-    via: &[usize; 128],
-    from: &[usize; 128],
+    node: &[usize; DEVICES],
+    via: &[usize; DEVICES],
+    from: &[usize; DEVICES],
     start: usize,
     count: usize,
 ) -> usize
@@ -79,10 +81,10 @@ pub fn least(
     widths: &[usize],
     drains: &[usize],
     start: usize,
-    last: &[usize; 128],
-    before_first: &[usize; 1024],
-    before_second: &[usize; 1024],
-    mark: &mut [u8; 128],
+    last: &[usize; DEVICES],
+    before_first: &[usize; LINES],
+    before_second: &[usize; LINES],
+    mark: &mut [u8; DEVICES],
 )
     requires { ⌜ Network k (now firsts) (now seconds) (now widths) (now drains) start k ⌝ }
     requires { ⌜ Lasts (now firsts) (now seconds) (length (now firsts)) (now last) ⌝ }
@@ -90,12 +92,12 @@ pub fn least(
     ensures { λ _. ⌜ IsLeast (linesOf (now (firsts .entry)) (now (seconds .entry)) (now (widths .entry))) (λ v. getD (now (drains .entry)) v 0) k start (λ v. eqb (getD (now (mark .exit)) v 0) 1) ⌝ }
     ensures { λ _. ⌜ ((v : ℕ) → v < k → getD (now (mark .exit)) v 0 ≡ cond (eqb (getD (now (mark .exit)) v 0) 1) 1 0) ⌝ }
 {
-    let mut forth = [0usize; 1024];
-    let mut back = [0usize; 1024];
-    let mut drain = [0usize; 128];
-    let mut node = [0usize; 128];
-    let mut via = [0usize; 128];
-    let mut from = [0usize; 128];
+    let mut forth = [0usize; LINES];
+    let mut back = [0usize; LINES];
+    let mut drain = [0usize; DEVICES];
+    let mut node = [0usize; DEVICES];
+    let mut via = [0usize; DEVICES];
+    let mut from = [0usize; DEVICES];
     open_lines(widths, &mut forth, &mut back);
     open_drains(k, drains, &mut drain);
     let mut sent = 0;

@@ -1,5 +1,7 @@
 // The way back from a place of the queue to place 0: how much can go along it, and sending that much.
 use crate::reach::spare_from;
+use rules::DEVICES;
+use rules::LINES;
 ghost use lib.ListN.{length, getD};
 ghost use mathlib.Core.Path.{_≡_};
 ghost use Prim.Native.Nat.{ℕ, _+_, _≤_, _<_, _^_};
@@ -8,11 +10,11 @@ ghost use Rattle.network.specs.Search.{Laid, Way, Passable, Clear, Sent,
 // The most that can go from place 0 to place `end`, and no more than `limit`.
 pub fn narrowest(
     firsts: &[usize],
-    forth: &[usize; 1024],
-    back: &[usize; 1024],
-    node: &[usize; 128],
-    via: &[usize; 128],
-    from: &[usize; 128],
+    forth: &[usize; LINES],
+    back: &[usize; LINES],
+    node: &[usize; DEVICES],
+    via: &[usize; DEVICES],
+    from: &[usize; DEVICES],
     end: usize,
     limit: usize,
 ) -> usize
@@ -65,11 +67,11 @@ fn send_over(
 pub fn send(
     firsts: &[usize],
     seconds: &[usize],
-    forth: &mut [usize; 1024],
-    back: &mut [usize; 1024],
-    node: &[usize; 128],
-    via: &[usize; 128],
-    from: &[usize; 128],
+    forth: &mut [usize; LINES],
+    back: &mut [usize; LINES],
+    node: &[usize; DEVICES],
+    via: &[usize; DEVICES],
+    from: &[usize; DEVICES],
     end: usize,
     amount: usize,
 )

@@ -1,6 +1,8 @@
 // The search: breadth first from a device over the lines with something to spare, until a device with drain left is found.
 // The queue is `node`; `via` and `from` say of each place but 0 by which line and from which place its device was reached.
 use crate::index::line_before;
+use rules::DEVICES;
+use rules::LINES;
 ghost use lib.ListN.{length, getD, set};
 ghost use mathlib.Core.Path.{_≡_};
 ghost use mathlib.Core.Bool.{true, false, cond};
@@ -17,8 +19,8 @@ pub struct Front {
 // What can still go over line l out of device u, one of its ends.
 pub fn spare_from(
     firsts: &[usize],
-    forth: &[usize; 1024],
-    back: &[usize; 1024],
+    forth: &[usize; LINES],
+    back: &[usize; LINES],
     l: usize,
     u: usize,
 ) -> usize
@@ -62,13 +64,13 @@ fn tick(mark: &mut [u8], v: usize)
 fn look(
     firsts: &[usize],
     seconds: &[usize],
-    forth: &[usize; 1024],
-    back: &[usize; 1024],
-    drain: &[usize; 128],
-    node: &mut [usize; 128],
-    via: &mut [usize; 128],
-    from: &mut [usize; 128],
-    mark: &mut [u8; 128],
+    forth: &[usize; LINES],
+    back: &[usize; LINES],
+    drain: &[usize; DEVICES],
+    node: &mut [usize; DEVICES],
+    via: &mut [usize; DEVICES],
+    from: &mut [usize; DEVICES],
+    mark: &mut [u8; DEVICES],
     count: usize,
     h: usize,
     l: usize,
@@ -115,16 +117,16 @@ fn look(
 fn spread(
     firsts: &[usize],
     seconds: &[usize],
-    last: &[usize; 128],
-    before_first: &[usize; 1024],
-    before_second: &[usize; 1024],
-    forth: &[usize; 1024],
-    back: &[usize; 1024],
-    drain: &[usize; 128],
-    node: &mut [usize; 128],
-    via: &mut [usize; 128],
-    from: &mut [usize; 128],
-    mark: &mut [u8; 128],
+    last: &[usize; DEVICES],
+    before_first: &[usize; LINES],
+    before_second: &[usize; LINES],
+    forth: &[usize; LINES],
+    back: &[usize; LINES],
+    drain: &[usize; DEVICES],
+    node: &mut [usize; DEVICES],
+    via: &mut [usize; DEVICES],
+    from: &mut [usize; DEVICES],
+    mark: &mut [u8; DEVICES],
     counted: usize,
     h: usize,
 ) -> Front
@@ -168,12 +170,12 @@ fn spread(
 }
 
 // Device d alone is reached: it stands at place 0, and it alone is marked.
-fn begin(d: usize, node: &mut [usize; 128], mark: &mut [u8; 128])
+fn begin(d: usize, node: &mut [usize; DEVICES], mark: &mut [u8; DEVICES])
     requires { ⌜ d < 128 ⌝ }
     ensures { λ _. ⌜ getD (now (node .exit)) 0 0 ≡ d ⌝ }
     ensures { λ _. ⌜ ((v : ℕ) → v < 128 → getD (now (mark .exit)) v 0 ≡ cond (eqb v d) 1 0) ⌝ }
 {
-    *mark = [0; 128];
+    *mark = [0; DEVICES];
     tick(mark, d);
     put(node, 0, d);
 }
@@ -182,16 +184,16 @@ fn begin(d: usize, node: &mut [usize; 128], mark: &mut [u8; 128])
 pub fn search(
     firsts: &[usize],
     seconds: &[usize],
-    last: &[usize; 128],
-    before_first: &[usize; 1024],
-    before_second: &[usize; 1024],
-    forth: &[usize; 1024],
-    back: &[usize; 1024],
-    drain: &[usize; 128],
-    node: &mut [usize; 128],
-    via: &mut [usize; 128],
-    from: &mut [usize; 128],
-    mark: &mut [u8; 128],
+    last: &[usize; DEVICES],
+    before_first: &[usize; LINES],
+    before_second: &[usize; LINES],
+    forth: &[usize; LINES],
+    back: &[usize; LINES],
+    drain: &[usize; DEVICES],
+    node: &mut [usize; DEVICES],
+    via: &mut [usize; DEVICES],
+    from: &mut [usize; DEVICES],
+    mark: &mut [u8; DEVICES],
     d: usize,
 ) -> Front
     requires { ⌜ Laid (now firsts) (now seconds) ⌝ }
