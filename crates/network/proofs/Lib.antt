@@ -5,9 +5,13 @@
 --     PathLaws    the way back from a place of the queue: how much can go, and what sending it changes
 --     SpareLaws   what each set costs is what has been sent and what can still leave it: at the start, after a path, at the end
 --     LeastLaws   the loops of the least set
+--     CallLaws    what the public call answers and leaves in the marks
+--     Determined  two results that its contract allows are equal
 pub mod EndLaws
 pub mod IndexLaws
 pub mod ReachLaws
 pub mod PathLaws
 pub mod SpareLaws
 pub mod LeastLaws
+pub mod CallLaws
+pub mod Determined
