@@ -2,22 +2,21 @@
 --     Opened, opened-start, -step     a list whose first entries are opened, each by a rule
 --     laid-network                    the lists of a network are laid as the search needs them
 --     led-..                          what a search that found a node leaves to do, and what it changes
---     Sending                         the loop: what is still to go, and what the last search came to
---     spares-.., sent-..              of a network: the start, and how large the numbers get
+--     Sending                         the loop: what is still to go, and where the last search stands
+--     spares-..                       of a network: the start, and how large the numbers get
 -- Assumes nothing.
 use Prim.Native.Nat.{ℕ, _+_, _-_, _*_, _^_, _≤_, _<_}
 use mathlib.Core.Path.{_≡_, refl, sym, _∙_}
 use mathlib.Core.Bool.{Bool, true, false}
 use mathlib.Core.List.{List}
-use native.Mathlib.Nat.{le-trans}
 use native.Mathlib.Decide.{ℕ-discrete}
 use native.Mathlib.Omega.{arith}
 use lib.ListN.{length, getD, set, length-set}
 use lib.Seq.{getD-set-same, getD-set-other}
 use Rattle.network.specs.Calls.{Network}
-use Rattle.network.specs.Search.{Laid, Way, Found, Scan, Led, Sent, Spares}
+use Rattle.network.specs.Search.{Laid, Way, Scan, Found, Standing, Led, Sent, Spares}
 use Rattle.network.proofs.ReachLaws.{count-most}
-use Rattle.network.proofs.SpareLaws.{spares-start, spares-sent, spares-limit, cost-most, nodes-below}
+use Rattle.network.proofs.SpareLaws.{spares-start, spares-sent, nodes-below}
 
 -- the entries below k are opened by the rule P
 pub record Opened (P : ℕ → ℕ → Type 0) (size : ℕ) (list : List ℕ) (k : ℕ) : Type 0 where
@@ -51,15 +50,15 @@ laid-network a = record {
   differ = λ l b. a .line l b .rising;
 }
 
-pub led-found : {xs ys fs rs ws : List ℕ} {d : ℕ} {nodes vias froms marks : List ℕ} {count : ℕ}
-    → Found xs ys fs rs ws d nodes vias froms marks count → Led xs ys fs rs ws d nodes vias froms count
+pub led-found : {xs ys fs rs ws : List ℕ} {d : ℕ} {nodes vias froms marks : List ℕ} {count h k : ℕ}
+    → Found xs ys fs rs ws d nodes vias froms marks count h k → Led xs ys fs rs ws d nodes vias froms count
 led-found found = record {
-  way = found .tree .way;
-  passable = found .tree .passable;
-  some = found .tree .some;
-  most = count-most (found .tree);
-  root = found .tree .root;
-  device = found .tree .device;
+  way = found .covered .tree .way;
+  passable = found .covered .tree .passable;
+  some = found .covered .tree .some;
+  most = count-most (found .covered .tree);
+  root = found .covered .tree .root;
+  device = found .covered .tree .device;
   wet = found .wet;
 }
 
@@ -73,16 +72,15 @@ module _ {xs ys fs rs ws : List ℕ} {d : ℕ} {nodes vias froms : List ℕ} {co
 
   -- what went along it: the drain of the last node falls by as much
   pub led-sent : {δ : ℕ} {fs′ rs′ : List ℕ} → Sent xs ys (getD nodes 0 0) (getD nodes (count - 1) 0) δ fs rs fs′ rs′
-      → {k : ℕ} {zs ds : List ℕ} {sent : ℕ} → ((j : ℕ) → j < count → getD nodes j 0 < k) → Spares k xs ys zs ds d fs rs ws sent
+      → {k : ℕ} {zs ds : List ℕ} → ((j : ℕ) → j < count → getD nodes j 0 < k) → Spares k xs ys zs ds d fs rs ws
       → getD nodes (count - 1) 0 < length ws → δ ≤ getD ws (getD nodes (count - 1) 0) 0
-      → Spares k xs ys zs ds d fs′ rs′ (set ws (getD nodes (count - 1) 0) (getD ws (getD nodes (count - 1) 0) 0 - δ)) (sent + δ)
+      → Spares k xs ys zs ds d fs′ rs′ (set ws (getD nodes (count - 1) 0) (getD ws (getD nodes (count - 1) 0) 0 - δ))
   led-sent gone below spares b m = spares-sent spares (rw (led .root) at gone) (below (count - 1) (omega (arith, led .some))) b m
 
--- the loop: what is still to go, and what the last search from the start came to
-pub record Sending (k : ℕ) (xs ys zs ds : List ℕ) (start : ℕ) (fs rs ws nodes vias froms marks : List ℕ) (sent : ℕ) (found : Bool) (count : ℕ) : Type 0 where
-  pub drains : length ws ≡ 128
-  pub spares : Spares k xs ys zs ds start fs rs ws sent
-  pub more : found ≡ true → Found xs ys fs rs ws start nodes vias froms marks count
+-- the loop: what is still to go, and where the last search stands
+pub record Sending (k : ℕ) (xs ys zs ds : List ℕ) (start : ℕ) (fs rs ws nodes vias froms marks : List ℕ) (found : Bool) (count h rest : ℕ) : Type 0 where
+  pub spares : Spares k xs ys zs ds start fs rs ws
+  pub more : found ≡ true → 1 ≤ count → Standing xs ys fs rs ws start nodes vias froms marks count h rest
   pub none : found ≡ false → Scan xs ys fs rs ws start nodes vias froms marks count count (length xs)
 
 -- of a network
@@ -92,15 +90,9 @@ module _ {k : ℕ} {xs ys zs ds : List ℕ} {start room : ℕ} (network : Networ
 
   module _ {fs rs ws : List ℕ} where
     pub spares-opened : ((l : ℕ) → l < length zs → Copied zs l (getD fs l 0)) → ((l : ℕ) → l < length zs → Copied zs l (getD rs l 0))
-        → ((v : ℕ) → v < k → Copied ds v (getD ws v 0)) → Spares k xs ys zs ds start fs rs ws 0
+        → ((v : ℕ) → v < k → Copied ds v (getD ws v 0)) → Spares k xs ys zs ds start fs rs ws
     spares-opened forth back drain =
         spares-start k xs ys zs ds start fs rs ws (network .even) (sym (network .even) ∙ network .even′) (λ l b. forth l (omega (arith, network .even′))) (λ l b. back l (omega (arith, network .even′))) drain
 
-    module _ {sent : ℕ} (spares : Spares k xs ys zs ds start fs rs ws sent) where
-      pub spares-small : (l : ℕ) → l < length xs → getD fs l 0 + getD rs l 0 < 2 ^ 63
-      spares-small l b = omega (arith, spares .whole l b, network .line l b .width)
-
-      pub sent-small : sent ≤ 1152 * 2 ^ 50
-      sent-small =
-          le-trans (spares-limit spares)
-          (cost-most k xs ys zs ds _ (network .even) (sym (network .even) ∙ network .even′) (network .lines) (λ l b. network .line l b .width) (network .few) (network .drain))
+    pub spares-small : Spares k xs ys zs ds start fs rs ws → (l : ℕ) → l < length xs → getD fs l 0 + getD rs l 0 < 2 ^ 63
+    spares-small spares l b = omega (arith, spares .whole l b, network .line l b .width)

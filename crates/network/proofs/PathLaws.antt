@@ -3,16 +3,18 @@
 --     over-sent                         what goes over one line out of one of its ends has gone to the other end
 --     sent-none, sent-on                nothing has gone from a device to itself; what went on to a place went on from the place before
 --     clear-spare, clear-rest            the last line of a way with something to spare, and the way before it
+--     clear-less                        what is less can go where more can
 --     clear-kept                        what goes over the last line of a way leaves the way before it as clear as it was
 --     Narrow, narrow-start, -step, -end    the least spare on the way, found from its end back to place 0
 --     Going, going-start, -step, -end      what has gone over the lines of the way, from its end back to place 0
+--     going-kept                           and what that left of the spares
 -- Assumes nothing.
 use Prim.Native.Nat.{ℕ, _+_, _-_, _≤_, _<_}
 use mathlib.Core.Path.{_≡_, refl, sym, ap, _∙_}
 use mathlib.Core.Logic.{_⊎_, inl, inr, ⊎-elim}
 use mathlib.Core.Bool.{Bool, true, false, cond}
 use mathlib.Core.List.{List}
-use native.Mathlib.Decide.{ℕ-discrete}
+use native.Mathlib.Decide.{ℕ-discrete, decLt}
 use native.Mathlib.Omega.{arith}
 use borrow.Author.Tests.{eq-eqb, ne-eqb}
 use lib.Dec.{eqb}
@@ -21,7 +23,7 @@ use lib.Seq.{getD-set-same, getD-set-other}
 use Rattle.rules.specs.Numbers.{sum}
 use Rattle.rules.proofs.SumLaws.{sum-change}
 use Rattle.network.proofs.EndLaws.{touches-other, far-first, far-second}
-use Rattle.network.specs.Search.{passing, linesLeave, spareFrom, farEnd, touches, Way, Clear, start, onward, forthAfter, backAfter, Sent}
+use Rattle.network.specs.Search.{passing, linesLeave, spareFrom, farEnd, touches, Way, Clear, start, onward, forthAfter, backAfter, Sent, Passable, Kept}
 use Rattle.rules.specs.Cut.{Devices}
 
 -- of two devices that a line touches, the far ends are the same, or the second is the far end of the first
@@ -79,6 +81,15 @@ module _ (xs fs rs : List ℕ) (l u δ : ℕ) where
     unfolding spareFrom
     spare-other v = rw (forth-other, back-other)
 
+  -- the spare over the line itself, the way that δ goes
+  spare-same : l < length fs → l < length rs → spareFrom xs (forthAfter xs fs l u δ) (backAfter xs rs l u δ) l u ≡ spareFrom xs fs rs l u - δ
+  unfolding spareFrom
+  spare-same p q = rw (forth-same p, back-same q) (go (eqb (getD xs l 0) u))
+    where
+      go : (s : Bool) → cond s (cond s (getD fs l 0 - δ) (getD fs l 0 + δ)) (cond s (getD rs l 0 + δ) (getD rs l 0 - δ)) ≡ cond s (getD fs l 0) (getD rs l 0) - δ
+      go true = refl
+      go false = refl
+
   pub over-sent : (ys : List ℕ) → l < length xs → l < length fs → l < length rs → touches xs ys l u ≡ true → δ ≤ spareFrom xs fs rs l u
       → Sent xs ys u (farEnd xs ys l u) δ fs rs (forthAfter xs fs l u δ) (backAfter xs rs l u δ)
   unfolding spareFrom linesLeave
@@ -126,6 +137,11 @@ module _ (xs fs rs nodes vias froms : List ℕ) (δ : ℕ) where
   clear-rest b start = absurd (omega arith)
   clear-rest b (onward p r rest) = rest
 
+-- what is less can go where more can
+pub clear-less : {xs fs rs nodes vias froms : List ℕ} {δ ε j : ℕ} → δ ≤ ε → Clear xs fs rs nodes vias froms ε j → Clear xs fs rs nodes vias froms δ j
+clear-less b start = start
+clear-less b (onward p r rest) = onward p (omega arith) (clear-less b rest)
+
 -- no line comes twice on a way
 module _ (xs ys nodes vias froms : List ℕ) (count : ℕ) (way : Way xs ys nodes vias froms count) (j : ℕ) (b : j < count) where
   via-differ : (i : ℕ) → 1 ≤ i → i < j → getD vias i 0 ≡ getD vias j 0 → ⊥
@@ -138,12 +154,16 @@ module _ (xs ys nodes vias froms : List ℕ) (count : ℕ) (way : Way xs ys node
       ⊎-elim (λ d. omega (arith, way .once j i b c (sym s ∙ d ∙ r))) (λ d. omega (arith, way .once j (getD froms i 0) b (omega arith) (sym s ∙ d)))
       (far-two xs ys (getD vias j 0) (getD nodes (getD froms j 0) 0) (getD nodes (getD froms i 0) 0) (way .leaves j o b) (rw e at (way .leaves i p c)))
 
-  pub clear-kept : (fs rs : List ℕ) (u δ : ℕ) {i : ℕ} → i < j → Clear xs fs rs nodes vias froms δ i
-      → Clear xs (forthAfter xs fs (getD vias j 0) u δ) (backAfter xs rs (getD vias j 0) u δ) nodes vias froms δ i
+  pub clear-kept : (fs rs : List ℕ) (u δ : ℕ) {ε i : ℕ} → i < j → Clear xs fs rs nodes vias froms ε i
+      → Clear xs (forthAfter xs fs (getD vias j 0) u δ) (backAfter xs rs (getD vias j 0) u δ) nodes vias froms ε i
   clear-kept fs rs u δ m start = start
   clear-kept fs rs u δ m (onward {j = i} p r rest) =
       onward p (rw (spare-other xs fs rs (getD vias j 0) u δ (getD vias i 0) (via-differ i p m) (getD nodes (getD froms i 0) 0)) r)
       (clear-kept fs rs u δ (omega (arith, way .parent i p (omega arith))) rest)
+
+-- one of two places comes first
+apart : (i j : ℕ) → (i ≡ j → ⊥) → (i < j) ⊎ (j < i)
+apart i j n = elim (decLt i j) [ yes m ↦ inl m | no m ↦ inr (omega arith) ]
 
 -- whatever is at most `most` and can go to place j can go to place `last`
 pub record Narrow (xs fs rs nodes vias froms : List ℕ) (last limit most j : ℕ) : Type 0 where
@@ -177,31 +197,73 @@ pub record Going (xs ys fs₀ rs₀ nodes vias froms : List ℕ) (last δ : ℕ)
   pub within : j ≤ last
   pub clear : Clear xs fs rs nodes vias froms δ j
   pub sent : Sent xs ys (getD nodes j 0) (getD nodes last 0) δ fs₀ rs₀ fs rs
+  pub others : (l u : ℕ) → (spareFrom xs fs rs l u ≡ spareFrom xs fs₀ rs₀ l u) ⊎ ((i : ℕ) × (1 ≤ i) × (i < last + 1) × (getD vias i 0 ≡ l))
+  pub wide : Clear xs fs₀ rs₀ nodes vias froms (δ + 1) last → Clear xs fs rs nodes vias froms (δ + 1) j
+  pub passable : Clear xs fs₀ rs₀ nodes vias froms (δ + 1) last → Passable xs fs₀ rs₀ nodes vias froms (last + 1) → Passable xs fs rs nodes vias froms (last + 1)
 
 module _ (xs ys fs₀ rs₀ nodes vias froms : List ℕ) (last δ : ℕ) where
   pub going-start : Clear xs fs₀ rs₀ nodes vias froms δ last → Going xs ys fs₀ rs₀ nodes vias froms last δ fs₀ rs₀ last
-  going-start c = record { within = omega arith; clear = c; sent = sent-none xs ys (getD nodes last 0) δ fs₀ rs₀ }
+  going-start c = record {
+    within = omega arith;
+    clear = c;
+    sent = sent-none xs ys (getD nodes last 0) δ fs₀ rs₀;
+    others = λ l u. inl refl;
+    wide = λ w. w;
+    passable = λ w p. p;
+  }
 
   pub going-end : {fs rs : List ℕ} {j : ℕ} → Going xs ys fs₀ rs₀ nodes vias froms last δ fs rs j → j ≤ 0
       → Sent xs ys (getD nodes 0 0) (getD nodes last 0) δ fs₀ rs₀ fs rs
   going-end {fs} {rs} {j} g h = let e : j ≡ 0 = omega arith in rw e at (g .sent)
 
+  pub going-kept : {fs rs : List ℕ} {j : ℕ} → Going xs ys fs₀ rs₀ nodes vias froms last δ fs rs j → Kept xs nodes vias froms last δ fs₀ rs₀ fs rs
+  going-kept g = record { others = g .others; passable = g .passable }
+
   module _ (way : Way xs ys nodes vias froms (last + 1)) {fs rs : List ℕ} {j : ℕ} (g : Going xs ys fs₀ rs₀ nodes vias froms last δ fs rs j) (o : 1 ≤ j) where
     pub going-below : j < last + 1
     going-below = omega (arith, g .within)
 
-    pub going-step : length xs ≤ length fs → length xs ≤ length rs
-        → Going xs ys fs₀ rs₀ nodes vias froms last δ
-        (forthAfter xs fs (getD vias j 0) (getD nodes (getD froms j 0) 0) δ)
-        (backAfter xs rs (getD vias j 0) (getD nodes (getD froms j 0) 0) δ)
-        (getD froms j 0)
-    going-step p q =
-        let l = getD vias j 0 in
-        let u = getD nodes (getD froms j 0) 0 in
-        let b : l < length xs = way .line j o going-below in
-        let m : getD froms j 0 < j = way .parent j o going-below in
-        record {
-          within = omega (arith, g .within);
-          clear = clear-kept xs ys nodes vias froms (last + 1) way j going-below fs rs u δ m (clear-rest xs fs rs nodes vias froms δ o (g .clear));
-          sent = sent-on xs ys (g .sent) (rw (way .reaches j o going-below) at (over-sent xs fs rs l u δ ys b (omega arith) (omega arith) (way .leaves j o going-below) (clear-spare xs fs rs nodes vias froms δ o (g .clear))));
-        }
+    -- the lists after the line to place j, and the spares in them
+    abbrev forth′ : List ℕ
+    forth′ = forthAfter xs fs (getD vias j 0) (getD nodes (getD froms j 0) 0) δ
+
+    abbrev back′ : List ℕ
+    back′ = backAfter xs rs (getD vias j 0) (getD nodes (getD froms j 0) 0) δ
+
+    elsewhere : (l : ℕ) → (l ≡ getD vias j 0 → ⊥) → (v : ℕ) → spareFrom xs forth′ back′ l v ≡ spareFrom xs fs rs l v
+    elsewhere = spare-other xs fs rs (getD vias j 0) (getD nodes (getD froms j 0) 0) δ
+
+    -- no other place of the queue came by that line
+    differ : (i : ℕ) → 1 ≤ i → i < last + 1 → (i ≡ j → ⊥) → getD vias i 0 ≡ getD vias j 0 → ⊥
+    differ i p b n e =
+        ⊎-elim (λ m. via-differ xs ys nodes vias froms (last + 1) way j going-below i p m e) (λ m. via-differ xs ys nodes vias froms (last + 1) way i b j o m (sym e))
+        (apart i j n)
+
+    module _ (p : length xs ≤ length fs) (q : length xs ≤ length rs) where
+      line : getD vias j 0 < length xs
+      line = way .line j o going-below
+
+      -- a line with more than δ to spare keeps something
+      step-passable : Clear xs fs₀ rs₀ nodes vias froms (δ + 1) last → Passable xs fs₀ rs₀ nodes vias froms (last + 1) → Passable xs forth′ back′ nodes vias froms (last + 1)
+      step-passable wide before i m b = at (ℕ-discrete i j)
+        where
+          at : Dec (i ≡ j) → 1 ≤ spareFrom xs forth′ back′ (getD vias i 0) (getD nodes (getD froms i 0) 0)
+          at (yes e) = rw e (rw (spare-same xs fs rs (getD vias j 0) (getD nodes (getD froms j 0) 0) δ (omega (arith, line)) (omega (arith, line))) (omega (arith, clear-spare xs fs rs nodes vias froms (δ + 1) o (g .wide wide))))
+          at (no n) = rw (elsewhere (getD vias i 0) (differ i m b n) (getD nodes (getD froms i 0) 0)) (g .passable wide before i m b)
+
+      step-others : (l u : ℕ) → Dec (l ≡ getD vias j 0) → (spareFrom xs forth′ back′ l u ≡ spareFrom xs fs₀ rs₀ l u) ⊎ ((i : ℕ) × (1 ≤ i) × (i < last + 1) × (getD vias i 0 ≡ l))
+      step-others l u (yes e) = inr (j, o, going-below, sym e)
+      step-others l u (no n) = ⊎-elim (λ e. inl (elsewhere l n u ∙ e)) inr (g .others l u)
+
+      kept : {ε : ℕ} → Clear xs fs rs nodes vias froms ε j → Clear xs forth′ back′ nodes vias froms ε (getD froms j 0)
+      kept {ε} c = clear-kept xs ys nodes vias froms (last + 1) way j going-below fs rs (getD nodes (getD froms j 0) 0) δ (way .parent j o going-below) (clear-rest xs fs rs nodes vias froms ε o c)
+
+      pub going-step : Going xs ys fs₀ rs₀ nodes vias froms last δ forth′ back′ (getD froms j 0)
+      going-step = record {
+        within = omega (arith, g .within, way .parent j o going-below);
+        clear = kept (g .clear);
+        sent = sent-on xs ys (g .sent) (rw (way .reaches j o going-below) at (over-sent xs fs rs (getD vias j 0) (getD nodes (getD froms j 0) 0) δ ys line (omega (arith, line)) (omega (arith, line)) (way .leaves j o going-below) (clear-spare xs fs rs nodes vias froms δ o (g .clear))));
+        others = λ l u. step-others l u (ℕ-discrete l (getD vias j 0));
+        wide = λ w. kept (g .wide w);
+        passable = step-passable;
+      }

@@ -1,4 +1,4 @@
--- A search on plain lists: how its tree begins and grows by a device, and how a scan of its devices goes on by a line, by a device, and over the lines that are not the device's.
+-- A search on plain lists: how its tree begins and grows by a device, and how it goes on by a line, by a device, and over the lines that are not the device's.
 -- Assumes nothing.
 use Prim.Native.Nat.{ℕ, _+_, _-_, _≤_, _<_}
 use mathlib.Core.Path.{_≡_, refl, sym, _∙_}
@@ -13,7 +13,7 @@ use lib.ListN.{length, getD, set, replicate, length-replicate, getD-replicate}
 use lib.Seq.{getD-set-same, getD-set-other}
 use Rattle.rules.specs.Numbers.{sum}
 use Rattle.rules.proofs.SumLaws.{sum-most, sum-change, sum-one}
-use Rattle.network.specs.Search.{spareFrom, farEnd, touches, Laid, Before, Tree, Scan, Found}
+use Rattle.network.specs.Search.{spareFrom, farEnd, touches, Laid, Before, Tree, Covered, Scan, Found, Rest, Standing}
 
 -- the two sides of a question on numbers
 same-or-not : (i j : ℕ) → (i ≡ j) ⊎ (i ≡ j → ⊥)
@@ -34,6 +34,10 @@ far-device {xs} {ys} l u laid m = go (eqb (getD xs l 0) u)
     go true = laid .second l m
     go false = laid .first l m
 
+-- ---- the line before
+pub rest-before : {xs ys : List ℕ} {u k rest : ℕ} → Before xs ys u k rest → k ≤ length xs → Rest xs ys u rest
+rest-before before b = record { within = omega (arith, before .at-most); own = before .real }
+
 -- ---- what is known of the marks of a tree
 module _ {xs ys fs rs : List ℕ} {d : ℕ} {nodes vias froms marks : List ℕ} {count : ℕ} (tree : Tree xs ys fs rs d nodes vias froms marks count) where
   mark-or-none : (v : ℕ) → v < 128 → (getD marks v 0 ≡ 0) ⊎ (getD marks v 0 ≡ 1)
@@ -47,6 +51,16 @@ module _ {xs ys fs rs : List ℕ} {d : ℕ} {nodes vias froms marks : List ℕ} 
 
   pub mark-one : (v : ℕ) → v < 128 → (getD marks v 0 ≡ 0 → ⊥) → getD marks v 0 ≡ 1
   mark-one v m h = ⊎-elim (λ e. absurd (h e)) (λ e. e) (mark-or-none v m)
+
+-- ---- a search that has found a device with drain left, or can go on
+pub record Ready (xs ys fs rs ws : List ℕ) (d : ℕ) (nodes vias froms marks : List ℕ) (found : Bool) (count h rest : ℕ) : Type 0 where
+  pub none : found ≡ false → Standing xs ys fs rs ws d nodes vias froms marks count h rest
+  pub some : found ≡ true → Found xs ys fs rs ws d nodes vias froms marks count h rest
+  pub ahead : found ≡ true → Rest xs ys (getD nodes h 0) rest
+
+pub ready-standing : {xs ys fs rs ws : List ℕ} {d : ℕ} {nodes vias froms marks : List ℕ} {count h rest : ℕ} → Standing xs ys fs rs ws d nodes vias froms marks count h rest
+    → Ready xs ys fs rs ws d nodes vias froms marks false count h rest
+ready-standing standing = record { none = λ e. standing; some = λ e. absurd (false≢true e); ahead = λ e. absurd (false≢true e) }
 
 -- ---- a tree of one device
 -- the marks that begin it
@@ -75,18 +89,33 @@ module _ (xs ys fs rs : List ℕ) (d : ℕ) (nodes vias froms marks : List ℕ) 
     counted = sym (sum-one 128 (λ v. getD marks v 0) d device marked);
   }
 
-  module _ (ws : List ℕ) where
-    pub scan-begin : getD ws d 0 ≡ 0 → Scan xs ys fs rs ws d nodes vias froms marks 1 0 (length xs)
-    scan-begin e = record {
-      tree = tree-begin;
-      place = omega arith;
-      dry = λ j l. rw (first-only j l) e;
-      shut = λ j l. absurd (omega arith);
-      here = λ l m n. absurd (omega arith);
+  covered-begin : (k : ℕ) → ((l : ℕ) → k ≤ l → l < length xs → touches xs ys l d ≡ false) → Covered xs ys fs rs d nodes vias froms marks 1 0 k
+  covered-begin k gap = record {
+    tree = tree-begin;
+    place = omega arith;
+    shut = λ j l. absurd (omega arith);
+    here = λ o l m n t. absurd (false≢true (sym (gap l m n) ∙ (rw root at t)));
+  }
+
+  module _ (ws : List ℕ) {rest : ℕ} (before : Before xs ys d (length xs) rest) where
+    begin-rest : Rest xs ys (getD nodes 0 0) rest
+    begin-rest = rw root (rest-before before (omega arith))
+
+    begin-standing : getD ws d 0 ≡ 0 → Standing xs ys fs rs ws d nodes vias froms marks 1 0 rest
+    begin-standing e = record {
+      scan = record { covered = covered-begin rest (before .gap); dry = λ j l. rw (first-only j l) e };
+      ahead = begin-rest;
     }
 
-    pub found-begin : 1 ≤ getD ws d 0 → Found xs ys fs rs ws d nodes vias froms marks 1
-    found-begin h = record { tree = tree-begin; wet = λ j e. rw (first-only j (omega arith)) h }
+    begin-found : 1 ≤ getD ws d 0 → Found xs ys fs rs ws d nodes vias froms marks 1 0 rest
+    begin-found h = record {
+      covered = covered-begin rest (before .gap);
+      dry = λ j l. absurd (omega arith);
+      wet = λ j e. rw (first-only j (omega arith)) h;
+    }
+
+    pub ready-begin : {found : Bool} → (found ≡ false → getD ws d 0 ≡ 0) → (found ≡ true → 1 ≤ getD ws d 0) → Ready xs ys fs rs ws d nodes vias froms marks found 1 0 rest
+    ready-begin dry wet = record { none = λ e. begin-standing (dry e); some = λ e. begin-found (wet e); ahead = λ e. begin-rest }
 
 -- ---- a tree grows by a device
 -- line l, which has something to spare, leads from the device at place h to device w, which is not marked
@@ -204,75 +233,101 @@ module _ {xs ys fs rs : List ℕ} {d : ℕ} {nodes vias froms marks : List ℕ} 
       counted = marks-counted;
     }
 
-    pub found-more : {ws : List ℕ} → 1 ≤ getD ws w 0 → Found xs ys fs rs ws d (set nodes count w) (set vias count l) (set froms count h) (set marks w 1) (count + 1)
-    found-more m = record {
+    -- a search goes on over line l, by which w is reached: it has drain left, or none
+    covered-more : Covered xs ys fs rs d nodes vias froms marks count h (l + 1)
+        → Covered xs ys fs rs d (set nodes count w) (set vias count l) (set froms count h) (set marks w 1) (count + 1) h l
+    covered-more before = record {
       tree = tree-more;
-      wet = λ j e. let q : j ≡ count = omega arith in rw q (rw (comes nodes w node-size) m);
+      place = omega (arith, leads .place);
+      shut = λ j m. rw (stays nodes w j (omega (arith, leads .place))) (λ k n t r. mark-grows _ (before .shut j m k n t r));
+      here = λ o. rw (stays nodes w h (leads .place)) (λ k m n t r. ⊎-elim (λ q. rw (← q) (rw (leads .reaches) mark-new)) (λ q. mark-grows _ (before .here (leads .place) k (omega arith) n t r)) (same-or-not l k));
     }
 
-    -- a scan goes on over line l, where w has no drain left
-    pub scan-more : {ws : List ℕ} → Scan xs ys fs rs ws d nodes vias froms marks count h (l + 1) → getD ws w 0 ≡ 0
-        → Scan xs ys fs rs ws d (set nodes count w) (set vias count l) (set froms count h) (set marks w 1) (count + 1) h l
-    scan-more {ws} scan e = record {
-      tree = tree-more;
-      place = omega arith;
-      dry = each (λ v. getD ws v 0 ≡ 0) (scan .dry) e;
-      shut = λ j m. rw (stays nodes w j (omega (arith, leads .place))) (λ k n t r. mark-grows _ (scan .shut j m k n t r));
-      here = rw (stays nodes w h (leads .place)) (λ k m n t r. ⊎-elim (λ q. rw (← q) (rw (leads .reaches) mark-new)) (λ q. mark-grows _ (scan .here k (omega arith) n t r)) (same-or-not l k));
-    }
+    module _ {ws : List ℕ} (scan : Scan xs ys fs rs ws d nodes vias froms marks count h (l + 1)) where
+      pub found-more : 1 ≤ getD ws w 0 → Found xs ys fs rs ws d (set nodes count w) (set vias count l) (set froms count h) (set marks w 1) (count + 1) h l
+      found-more m = record {
+        covered = covered-more (scan .covered);
+        dry = λ j b. rw (stays nodes w j (omega arith)) (scan .dry j (omega arith));
+        wet = λ j e. let q : j ≡ count = omega arith in rw q (rw (comes nodes w node-size) m);
+      }
 
--- ---- a scan goes on
-module _ {xs ys fs rs ws : List ℕ} {d : ℕ} {nodes vias froms marks : List ℕ} {count h : ℕ} where
+      pub scan-more : getD ws w 0 ≡ 0 → Scan xs ys fs rs ws d (set nodes count w) (set vias count l) (set froms count h) (set marks w 1) (count + 1) h l
+      scan-more e = record { covered = covered-more (scan .covered); dry = each (λ v. getD ws v 0 ≡ 0) (scan .dry) e }
+
+-- ---- a search goes on
+module _ {xs ys fs rs : List ℕ} {d : ℕ} {nodes vias froms marks : List ℕ} {count h : ℕ} where
   -- over line l, by which nothing new is reached
-  pub scan-same : (l : ℕ) → Scan xs ys fs rs ws d nodes vias froms marks count h (l + 1) → (1 ≤ spareFrom xs fs rs l (getD nodes h 0) → getD marks (farEnd xs ys l (getD nodes h 0)) 0 ≡ 1)
-      → Scan xs ys fs rs ws d nodes vias froms marks count h l
-  scan-same l scan old = record {
-    tree = scan .tree;
-    place = scan .place;
-    dry = scan .dry;
-    shut = scan .shut;
-    here = λ k m n t r. ⊎-elim (λ e. rw (← e) (old (rw e r))) (λ e. scan .here k (omega arith) n t r) (same-or-not l k);
+  covered-same : (l : ℕ) → Covered xs ys fs rs d nodes vias froms marks count h (l + 1) → (1 ≤ spareFrom xs fs rs l (getD nodes h 0) → getD marks (farEnd xs ys l (getD nodes h 0)) 0 ≡ 1)
+      → Covered xs ys fs rs d nodes vias froms marks count h l
+  covered-same l before old = record {
+    tree = before .tree;
+    place = before .place;
+    shut = before .shut;
+    here = λ o k m n t r. ⊎-elim (λ e. rw (← e) (old (rw e r))) (λ e. before .here o k (omega arith) n t r) (same-or-not l k);
   }
 
   -- over the lines from t on below k, which are not the device's
-  pub scan-gap : {k t : ℕ} → Scan xs ys fs rs ws d nodes vias froms marks count h k → Before xs ys (getD nodes h 0) k t → Scan xs ys fs rs ws d nodes vias froms marks count h t
-  scan-gap {k} {t} scan before = record {
-    tree = scan .tree;
-    place = scan .place;
-    dry = scan .dry;
-    shut = scan .shut;
-    here = λ l m n e r. ⊎-elim (λ b. absurd (false≢true (sym (before .gap l m b) ∙ e))) (λ b. scan .here l b n e r) (below-or-not l k);
+  covered-gap : {k t : ℕ} → Covered xs ys fs rs d nodes vias froms marks count h k → (h < count → Before xs ys (getD nodes h 0) k t) → Covered xs ys fs rs d nodes vias froms marks count h t
+  covered-gap {k} {t} before gap = record {
+    tree = before .tree;
+    place = before .place;
+    shut = before .shut;
+    here = λ o l m n e r. ⊎-elim (λ b. absurd (false≢true (sym (gap o .gap l m b) ∙ e))) (λ b. before .here o l b n e r) (below-or-not l k);
   }
 
   -- to the next device
-  pub scan-next : Scan xs ys fs rs ws d nodes vias froms marks count h 0 → h < count → Scan xs ys fs rs ws d nodes vias froms marks count (h + 1) (length xs)
-  scan-next scan m = record {
-    tree = scan .tree;
+  covered-next : Covered xs ys fs rs d nodes vias froms marks count h 0 → h < count → Covered xs ys fs rs d nodes vias froms marks count (h + 1) (length xs)
+  covered-next before m = record {
+    tree = before .tree;
     place = omega arith;
-    dry = scan .dry;
-    shut = λ j b. ⊎-elim (λ c. scan .shut j c) (λ e. rw e (λ l n. scan .here l (omega arith) n)) (last-or-before j h b);
-    here = λ l a b. absurd (omega arith);
+    shut = λ j b. ⊎-elim (λ c. before .shut j c) (λ e. rw e (λ l n. before .here m l (omega arith) n)) (last-or-before j h b);
+    here = λ o l a b. absurd (omega arith);
   }
 
--- ---- the lines of the device u at place h, of which those from `rest` on are done
-pub record Spreading (xs ys fs rs ws : List ℕ) (d u : ℕ) (nodes vias froms marks : List ℕ) (count h rest : ℕ) : Type 0 where
-  pub scan : Scan xs ys fs rs ws d nodes vias froms marks count h rest
-  pub place : h < count
-  pub device : getD nodes h 0 ≡ u
-  pub within : rest ≤ length xs
-  pub own : (l : ℕ) → rest ≡ l + 1 → touches xs ys l u ≡ true
+  module _ {ws : List ℕ} where
+    pub scan-same : (l : ℕ) → Scan xs ys fs rs ws d nodes vias froms marks count h (l + 1) → (1 ≤ spareFrom xs fs rs l (getD nodes h 0) → getD marks (farEnd xs ys l (getD nodes h 0)) 0 ≡ 1)
+        → Scan xs ys fs rs ws d nodes vias froms marks count h l
+    scan-same l scan old = record { covered = covered-same l (scan .covered) old; dry = scan .dry }
 
-module _ {xs ys fs rs ws : List ℕ} {d u : ℕ} {nodes vias froms marks : List ℕ} {count h : ℕ} where
-  pub spreading : {k rest : ℕ} → Scan xs ys fs rs ws d nodes vias froms marks count h k → h < count → getD nodes h 0 ≡ u → k ≤ length xs → Before xs ys u k rest
-      → Spreading xs ys fs rs ws d u nodes vias froms marks count h rest
-  spreading scan m e b before = record { scan = scan-gap scan (rw e before); place = m; device = e; within = omega (arith, before .at-most); own = before .real }
+    pub scan-next : Scan xs ys fs rs ws d nodes vias froms marks count h 0 → h < count → Scan xs ys fs rs ws d nodes vias froms marks count (h + 1) (length xs)
+    scan-next scan m = record { covered = covered-next (scan .covered) m; dry = scan .dry }
 
-  module _ {rest : ℕ} (now : Spreading xs ys fs rs ws d u nodes vias froms marks count h rest) (some : 0 < rest) where
-    pub spreading-line : rest - 1 < length xs
-    spreading-line = omega (arith, now .within)
+    -- behind the last device
+    pub scan-done : {k : ℕ} → Scan xs ys fs rs ws d nodes vias froms marks count h k → count ≤ h → Scan xs ys fs rs ws d nodes vias froms marks count count (length xs)
+    scan-done scan b = record {
+      covered = record {
+        tree = scan .covered .tree;
+        place = omega arith;
+        shut = λ j m. scan .covered .shut j (omega arith);
+        here = λ o. absurd (omega arith);
+      };
+      dry = scan .dry;
+    }
 
-    pub spreading-own : touches xs ys (rest - 1) u ≡ true
-    spreading-own = now .own (rest - 1) (omega arith)
+    pub found-gap : {k t : ℕ} → Found xs ys fs rs ws d nodes vias froms marks count h k → Before xs ys (getD nodes h 0) k t → Found xs ys fs rs ws d nodes vias froms marks count h t
+    found-gap found gap = record { covered = covered-gap (found .covered) (λ o. gap); dry = found .dry; wet = found .wet }
 
-    pub spreading-scan : Scan xs ys fs rs ws (getD nodes 0 0) nodes vias froms marks count h (rest - 1 + 1)
-    spreading-scan = let e : rest - 1 + 1 ≡ rest = omega arith in rw (now .scan .tree .root, e) (now .scan)
+    -- to the line before, or to a place behind the queue
+    pub standing-line : {k t : ℕ} → Scan xs ys fs rs ws d nodes vias froms marks count h k → k ≤ length xs → Before xs ys (getD nodes h 0) k t → Standing xs ys fs rs ws d nodes vias froms marks count h t
+    standing-line scan b gap = record {
+      scan = record { covered = covered-gap (scan .covered) (λ o. gap); dry = scan .dry };
+      ahead = rest-before gap b;
+    }
+
+    pub standing-place : {t : ℕ} → Scan xs ys fs rs ws d nodes vias froms marks count h (length xs) → (h < count → Before xs ys (getD nodes h 0) (length xs) t) → (count ≤ h → t ≡ 0)
+        → Standing xs ys fs rs ws d nodes vias froms marks count h t
+    standing-place scan gap none = record {
+      scan = record { covered = covered-gap (scan .covered) gap; dry = scan .dry };
+      ahead = ⊎-elim (λ o. rest-before (gap o) (omega arith)) (λ o. rw (none o) (record { within = omega arith; own = λ l e. absurd (omega arith) })) (below-or-not h count);
+    }
+
+    -- the next line
+    module _ {rest : ℕ} (now : Standing xs ys fs rs ws d nodes vias froms marks count h rest) (some : 0 < rest) where
+      pub standing-below : rest - 1 < length xs
+      standing-below = omega (arith, now .ahead .within)
+
+      pub standing-own : touches xs ys (rest - 1) (getD nodes h 0) ≡ true
+      standing-own = now .ahead .own (rest - 1) (omega arith)
+
+      pub standing-scan : Scan xs ys fs rs ws (getD nodes 0 0) nodes vias froms marks count h (rest - 1 + 1)
+      standing-scan = let e : rest - 1 + 1 ≡ rest = omega arith in rw (now .scan .covered .tree .root, e) (now .scan)

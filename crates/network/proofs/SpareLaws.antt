@@ -1,15 +1,15 @@
 -- The search in numbers: each set that holds the start costs what has been sent and what can still leave it.
 --     spares-start, spares-sent      so it is at the start, and so it stays when some is sent
---     spares-limit, cost-most        how large the numbers get
+--     drains-less                    what is sent leaves the drains with less
 --     way-all, nodes-below           what holds of every node in the queue
 --     spares-done, spares-marks      where nothing more can be sent, the marked nodes are the least set
 -- Assumes nothing.
-use Prim.Native.Nat.{ℕ, zero, suc, _+_, _-_, _*_, _^_, _≤_, _<_, zero-le, suc-le-suc}
+use Prim.Native.Nat.{ℕ, zero, suc, _+_, _-_, _*_, _≤_, _<_, zero-le, suc-le-suc}
 use mathlib.Core.Path.{_≡_, refl, sym, ap, _∙_}
 use mathlib.Core.Logic.{_⊎_, inl, inr}
 use mathlib.Core.Bool.{Bool, true, false, _||_, cond, false≢true}
 use mathlib.Core.List.{List}
-use native.Mathlib.Nat.{le-refl, le-trans, lt-suc-self, mul-le-mul}
+use native.Mathlib.Nat.{le-trans, lt-suc-self}
 use native.Mathlib.Omega.{arith}
 use borrow.Author.Tests.{eqb-true, eq-eqb}
 use lib.Dec.{eqb}
@@ -20,9 +20,7 @@ use Rattle.rules.specs.Cut.{Devices, crossing, out}
 use Rattle.rules.specs.Sets.{Inside}
 use Rattle.rules.specs.Network.{drained, netCost, IsLeast}
 use Rattle.rules.specs.Numbers.{sum}
-use Rattle.rules.proofs.SetLaws.{cond-most}
-use Rattle.rules.proofs.PlantLaws.{crossing-most}
-use Rattle.rules.proofs.SumLaws.{sum-agree, sum-most, sum-change, sum-zero, zero-sum, out-sum}
+use Rattle.rules.proofs.SumLaws.{sum-agree, sum-change, sum-zero, zero-sum, out-sum}
 use Rattle.network.specs.Search.{passing, linesLeave, drainsLeave, spareFrom, farEnd, touches, Laid, Way, Scan, Sent, Spares}
 use Rattle.network.proofs.EndLaws.{touches-first, touches-second, far-first, far-second, spare-first, spare-second}
 
@@ -58,9 +56,10 @@ module _ (k : ℕ) (xs ys zs ds : List ℕ) (start : ℕ) (fs rs ws : List ℕ) 
       → ((l : ℕ) → l < length xs → getD fs l 0 ≡ getD zs l 0)
       → ((l : ℕ) → l < length xs → getD rs l 0 ≡ getD zs l 0)
       → ((v : ℕ) → v < k → getD ws v 0 ≡ getD ds v 0)
-      → Spares k xs ys zs ds start fs rs ws 0
+      → Spares k xs ys zs ds start fs rs ws
   unfolding netCost
   spares-start e e′ forth back drain = record {
+    sent = 0;
     whole = λ l b. omega (arith, forth l b, back l b);
     share = λ T t. omega (arith, start-lines e e′ forth back T, start-drains drain T);
   }
@@ -79,29 +78,21 @@ drains-after n ws e δ T b c l =
     at false after before h = omega arith
 
 -- δ has gone from the start to e, and there by the drain
-pub spares-sent : {k : ℕ} {xs ys zs ds : List ℕ} {start : ℕ} {fs rs ws : List ℕ} {sent e δ : ℕ} {fs′ rs′ : List ℕ}
-    → Spares k xs ys zs ds start fs rs ws sent → Sent xs ys start e δ fs rs fs′ rs′ → e < k → e < length ws → δ ≤ getD ws e 0
-    → Spares k xs ys zs ds start fs′ rs′ (set ws e (getD ws e 0 - δ)) (sent + δ)
+pub spares-sent : {k : ℕ} {xs ys zs ds : List ℕ} {start : ℕ} {fs rs ws : List ℕ} {e δ : ℕ} {fs′ rs′ : List ℕ}
+    → Spares k xs ys zs ds start fs rs ws → Sent xs ys start e δ fs rs fs′ rs′ → e < k → e < length ws → δ ≤ getD ws e 0
+    → Spares k xs ys zs ds start fs′ rs′ (set ws e (getD ws e 0 - δ))
 spares-sent {k} {ws = ws} {e = e} {δ = δ} spares gone b c l = record {
+  sent = spares .sent + δ;
   whole = λ l h. gone .kept l h ∙ spares .whole l h;
   share = λ T t. omega (arith, spares .share T t, rw t at (gone .moved T), drains-after k ws e δ T b c l);
 }
 
--- bounds
-pub spares-limit : {k : ℕ} {xs ys zs ds : List ℕ} {start : ℕ} {fs rs ws : List ℕ} {sent : ℕ}
-    → Spares k xs ys zs ds start fs rs ws sent → sent ≤ netCost (linesOf xs ys zs) (λ v. getD ds v 0) k (λ v. eqb v start)
-spares-limit {start = start} spares = omega (arith, spares .share (λ v. eqb v start) (eq-eqb start start refl))
-
-pub cost-most : (k : ℕ) (xs ys zs ds : List ℕ) (T : Devices) → length xs ≡ length ys → length ys ≡ length zs → length xs ≤ 1024
-    → ((l : ℕ) → l < length xs → getD zs l 0 ≤ 2 ^ 50) → k ≤ 128 → ((v : ℕ) → v < k → getD ds v 0 ≤ 2 ^ 50)
-    → netCost (linesOf xs ys zs) (λ v. getD ds v 0) k T ≤ 1152 * 2 ^ 50
-unfolding netCost
-cost-most k xs ys zs ds T e e′ few most c drain =
-    let lines : out (linesOf xs ys zs) T ≤ 1024 * 2 ^ 50 =
-    rw (out-sum xs ys zs T e e′) (le-trans (sum-most (length xs) _ (2 ^ 50) (λ l h. le-trans (crossing-most _ _ _) (most l h))) (mul-le-mul few (le-refl (2 ^ 50)))) in
-    let nodes : drained (λ v. getD ds v 0) k T ≤ 128 * 2 ^ 50 =
-    rw (drained-sum (λ v. getD ds v 0) k T) (le-trans (sum-most k (λ v. cond (T v) (getD ds v 0) 0) (2 ^ 50) (λ v h. le-trans (cond-most (T v) (getD ds v 0)) (drain v h))) (mul-le-mul c (le-refl (2 ^ 50)))) in
-    omega arith
+-- the drains together are less
+pub drains-less : (ws : List ℕ) (e δ : ℕ) → e < 128 → e < length ws → 1 ≤ δ → δ ≤ getD ws e 0
+    → sum 128 (λ v. getD (set ws e (getD ws e 0 - δ)) v 0) < sum 128 (λ v. getD ws v 0)
+drains-less ws e δ b c some l =
+    let x : ℕ = getD ws e 0 - δ in
+    omega (arith, sum-change 128 (λ v. getD ws v 0) (λ v. getD (set ws e x) v 0) e b (λ v h n. getD-set-other ws e v x 0 n), getD-set-same ws e x 0 c)
 
 -- what holds of the first device in the queue and passes on along each line by which a device came holds of every device in the queue
 pub way-all : {xs ys nodes vias froms : List ℕ} {count : ℕ} → Way xs ys nodes vias froms count → (P : ℕ → Type 0)
@@ -168,11 +159,11 @@ abbrev marked : List ℕ → Devices
 marked marks v = eqb (getD marks v 0) 1
 
 -- a search that has gone through its whole queue and found no drain: the marked nodes are the least set
-module _ {n : ℕ} {xs ys zs ds : List ℕ} {d : ℕ} {fs rs ws : List ℕ} {sent : ℕ} {nodes vias froms marks : List ℕ} {count : ℕ}
+module _ {n : ℕ} {xs ys zs ds : List ℕ} {d : ℕ} {fs rs ws : List ℕ} {nodes vias froms marks : List ℕ} {count : ℕ}
     (laid : Laid xs ys) (few : n ≤ 128)
-    (spares : Spares n xs ys zs ds d fs rs ws sent) (scan : Scan xs ys fs rs ws d nodes vias froms marks count count (length xs)) where
+    (spares : Spares n xs ys zs ds d fs rs ws) (scan : Scan xs ys fs rs ws d nodes vias froms marks count count (length xs)) where
   reached : (v : ℕ) → v < 128 → marked marks v ≡ true → (j : ℕ) × (j < count) × (getD nodes j 0 ≡ v)
-  reached v b m = go (scan .tree .listed v b)
+  reached v b m = go (scan .covered .tree .listed v b)
     where
       go : (getD marks v 0 ≡ 0) ⊎ ((j : ℕ) × (j < count) × (getD nodes j 0 ≡ v)) → (j : ℕ) × (j < count) × (getD nodes j 0 ≡ v)
       go (inl z) = absurd (omega (arith, eqb-true (getD marks v 0) 1 m))
@@ -182,7 +173,7 @@ module _ {n : ℕ} {xs ys zs ds : List ℕ} {d : ℕ} {fs rs ws : List ℕ} {sen
       → marked marks (farEnd xs ys l v) ≡ true
   onward l v h b m t r =
       let at = reached v b m in
-      let far : touches xs ys l v ≡ true → 1 ≤ spareFrom xs fs rs l v → getD marks (farEnd xs ys l v) 0 ≡ 1 = rw (at .2) at (scan .shut (at .0) (at .1) l h) in
+      let far : touches xs ys l v ≡ true → 1 ≤ spareFrom xs fs rs l v → getD marks (farEnd xs ys l v) 0 ≡ 1 = rw (at .2) at (scan .covered .shut (at .0) (at .1) l h) in
       eq-eqb (getD marks (farEnd xs ys l v) 0) 1 (far t r)
 
   lines-shut : linesLeave xs ys fs rs (marked marks) ≡ 0
@@ -211,9 +202,9 @@ module _ {n : ℕ} {xs ys zs ds : List ℕ} {d : ℕ} {fs rs ws : List ℕ} {sen
       at v b false m = refl
 
   marked-root : marked marks d ≡ true
-  marked-root = eq-eqb (getD marks d 0) 1 (rw (scan .tree .root) at (scan .tree .marked 0 (scan .tree .some)))
+  marked-root = eq-eqb (getD marks d 0) 1 (rw (scan .covered .tree .root) at (scan .covered .tree .marked 0 (scan .covered .tree .some)))
 
-  marked-cost : netCost (linesOf xs ys zs) (λ v. getD ds v 0) n (marked marks) ≡ sent
+  marked-cost : netCost (linesOf xs ys zs) (λ v. getD ds v 0) n (marked marks) ≡ spares .sent
   marked-cost = omega (arith, spares .share (marked marks) marked-root, lines-shut, drains-shut)
 
   -- a set that nothing can leave holds every marked device
@@ -221,13 +212,13 @@ module _ {n : ℕ} {xs ys zs ds : List ℕ} {d : ℕ} {fs rs ws : List ℕ} {sen
   unfolding linesLeave
   marked-least T t none v b m =
       let at = reached v (le-trans b few) m in
-      rw (at .2) at (way-all (scan .tree .way) (λ u. T u ≡ true) (rw (scan .tree .root) t) step (at .0) (at .1))
+      rw (at .2) at (way-all (scan .covered .tree .way) (λ u. T u ≡ true) (rw (scan .covered .tree .root) t) step (at .0) (at .1))
     where
       step : (j : ℕ) → 1 ≤ j → j < count → T (getD nodes (getD froms j 0) 0) ≡ true → T (getD nodes j 0) ≡ true
       step j s b h =
-          let way = scan .tree .way in
+          let way = scan .covered .tree .way in
           rw (way .reaches j s b)
-          at (line-kept xs ys fs rs (getD vias j 0) (getD nodes (getD froms j 0) 0) T (sum-zero (length xs) _ none (getD vias j 0) (way .line j s b)) (way .leaves j s b) (scan .tree .passable j s b) h)
+          at (line-kept xs ys fs rs (getD vias j 0) (getD nodes (getD froms j 0) 0) T (sum-zero (length xs) _ none (getD vias j 0) (way .line j s b)) (way .leaves j s b) (scan .covered .tree .passable j s b) h)
 
   pub spares-done : IsLeast (linesOf xs ys zs) (λ v. getD ds v 0) n d (λ v. eqb (getD marks v 0) 1)
   spares-done = record {
@@ -237,8 +228,8 @@ module _ {n : ℕ} {xs ys zs ds : List ℕ} {d : ℕ} {fs rs ws : List ℕ} {sen
   }
 
   pub spares-marks : (v : ℕ) → v < n → getD marks v 0 ≡ cond (eqb (getD marks v 0) 1) 1 0
-  spares-marks v b = go (scan .tree .listed v (le-trans b few))
+  spares-marks v b = go (scan .covered .tree .listed v (le-trans b few))
     where
       go : (getD marks v 0 ≡ 0) ⊎ ((j : ℕ) × (j < count) × (getD nodes j 0 ≡ v)) → getD marks v 0 ≡ cond (eqb (getD marks v 0) 1) 1 0
       go (inl z) = rw z
-      go (inr r) = rw (rw (r .2) at (scan .tree .marked (r .0) (r .1)))
+      go (inr r) = rw (rw (r .2) at (scan .covered .tree .marked (r .0) (r .1)))

@@ -84,20 +84,38 @@ pub record Tree (xs ys fs rs : List ℕ) (d : ℕ) (nodes vias froms marks : Lis
   pub listed : (v : ℕ) → v < 128 → (getD marks v 0 ≡ 0) ⊎ ((j : ℕ) × (j < count) × (getD nodes j 0 ≡ v))
   pub counted : count ≡ sum 128 (λ v. getD marks v 0)
 
--- a search at place h of the queue: no device in it has drain left; over every line of the devices at places below h, and over those lines of the device at h that are not below k, all that can be reached is marked
-pub record Scan (xs ys fs rs ws : List ℕ) (d : ℕ) (nodes vias froms marks : List ℕ) (count h k : ℕ) : Type 0 where
+-- what line l of device u leads to is marked, if it has something to spare
+abbrev pub Shut : List ℕ → List ℕ → List ℕ → List ℕ → List ℕ → ℕ → ℕ → Type 0
+Shut xs ys fs rs marks u l =
+    touches xs ys l u ≡ true → 1 ≤ spareFrom xs fs rs l u → getD marks (farEnd xs ys l u) 0 ≡ 1
+
+-- a search at place h of the queue: over every line of the devices at places below h, and over those lines of the device at h that are not below k, all that can be reached is marked
+pub record Covered (xs ys fs rs : List ℕ) (d : ℕ) (nodes vias froms marks : List ℕ) (count h k : ℕ) : Type 0 where
   pub tree : Tree xs ys fs rs d nodes vias froms marks count
   pub place : h ≤ count
-  pub dry : (j : ℕ) → j < count → getD ws (getD nodes j 0) 0 ≡ 0
-  pub shut : (j : ℕ) → j < h → (l : ℕ) → l < length xs → touches xs ys l (getD nodes j 0) ≡ true
-      → 1 ≤ spareFrom xs fs rs l (getD nodes j 0) → getD marks (farEnd xs ys l (getD nodes j 0)) 0 ≡ 1
-  pub here : (l : ℕ) → k ≤ l → l < length xs → touches xs ys l (getD nodes h 0) ≡ true
-      → 1 ≤ spareFrom xs fs rs l (getD nodes h 0) → getD marks (farEnd xs ys l (getD nodes h 0)) 0 ≡ 1
+  pub shut : (j : ℕ) → j < h → (l : ℕ) → l < length xs → Shut xs ys fs rs marks (getD nodes j 0) l
+  pub here : h < count → (l : ℕ) → k ≤ l → l < length xs → Shut xs ys fs rs marks (getD nodes h 0) l
 
--- a search that found a device with drain left, the last in its queue
-pub record Found (xs ys fs rs ws : List ℕ) (d : ℕ) (nodes vias froms marks : List ℕ) (count : ℕ) : Type 0 where
-  pub tree : Tree xs ys fs rs d nodes vias froms marks count
+-- such a search that has found no drain
+pub record Scan (xs ys fs rs ws : List ℕ) (d : ℕ) (nodes vias froms marks : List ℕ) (count h k : ℕ) : Type 0 where
+  pub covered : Covered xs ys fs rs d nodes vias froms marks count h k
+  pub dry : (j : ℕ) → j < count → getD ws (getD nodes j 0) 0 ≡ 0
+
+-- one that has found a device with drain left, the last in its queue
+pub record Found (xs ys fs rs ws : List ℕ) (d : ℕ) (nodes vias froms marks : List ℕ) (count h k : ℕ) : Type 0 where
+  pub covered : Covered xs ys fs rs d nodes vias froms marks count h k
+  pub dry : (j : ℕ) → j + 1 < count → getD ws (getD nodes j 0) 0 ≡ 0
   pub wet : (j : ℕ) → count ≡ j + 1 → 1 ≤ getD ws (getD nodes j 0) 0
+
+-- rest is one more than a line of u, and 0 for none
+pub record Rest (xs ys : List ℕ) (u rest : ℕ) : Type 0 where
+  pub within : rest ≤ length xs
+  pub own : (l : ℕ) → rest ≡ l + 1 → touches xs ys l u ≡ true
+
+-- where a search can go on: the lines of the device at h that are not below `rest` are done, and the one before is its own
+pub record Standing (xs ys fs rs ws : List ℕ) (d : ℕ) (nodes vias froms marks : List ℕ) (count h rest : ℕ) : Type 0 where
+  pub scan : Scan xs ys fs rs ws d nodes vias froms marks count h rest
+  pub ahead : Rest xs ys (getD nodes h 0) rest
 
 -- what a found device leaves to do: the way to it, the last in the queue, has something to spare on every line, and it has drain left
 pub record Led (xs ys fs rs ws : List ℕ) (d : ℕ) (nodes vias froms : List ℕ) (count : ℕ) : Type 0 where
@@ -127,8 +145,14 @@ pub record Sent (xs ys : List ℕ) (d e δ : ℕ) (fs rs fs′ rs′ : List ℕ)
   pub kept : (l : ℕ) → l < length xs → getD fs′ l 0 + getD rs′ l 0 ≡ getD fs l 0 + getD rs l 0
   pub moved : (T : Devices) → linesLeave xs ys fs′ rs′ T + cond (T d) δ 0 ≡ linesLeave xs ys fs rs T + cond (T e) δ 0
 
+-- what δ that went along the way to place `last` of a queue left of the spares: no spare has changed but on the lines of the queue; and where the way had more than δ to spare, each line of the queue still has something to spare
+pub record Kept (xs nodes vias froms : List ℕ) (last δ : ℕ) (fs rs fs′ rs′ : List ℕ) : Type 0 where
+  pub others : (l u : ℕ) → (spareFrom xs fs′ rs′ l u ≡ spareFrom xs fs rs l u) ⊎ ((j : ℕ) × (1 ≤ j) × (j < last + 1) × (getD vias j 0 ≡ l))
+  pub passable : Clear xs fs rs nodes vias froms (δ + 1) last → Passable xs fs rs nodes vias froms (last + 1) → Passable xs fs′ rs′ nodes vias froms (last + 1)
+
 -- what is still to go and what has been sent, of the network with the lines xs, ys of the widths zs and the drains ds: each set that holds the start costs what has been sent and what can still leave it
-pub record Spares (k : ℕ) (xs ys zs ds : List ℕ) (start : ℕ) (fs rs ws : List ℕ) (sent : ℕ) : Type 0 where
+pub record Spares (k : ℕ) (xs ys zs ds : List ℕ) (start : ℕ) (fs rs ws : List ℕ) : Type 0 where
+  pub sent : ℕ
   pub whole : (l : ℕ) → l < length xs → getD fs l 0 + getD rs l 0 ≡ 2 * getD zs l 0
   pub share : (T : Devices) → T start ≡ true
       → netCost (linesOf xs ys zs) (λ v. getD ds v 0) k T ≡ sent + (linesLeave xs ys fs rs T + drainsLeave k ws T)

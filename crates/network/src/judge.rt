@@ -8,7 +8,7 @@ ghost use lib.ListN.{length, getD};
 ghost use Rattle.network.specs.Calls.{Network, LineFits};
 
 // The most that a width or a drain can be: 2⁵⁰, so that no sum of them wraps.
-const WIDEST: usize = 1125899906842624;
+pub const WIDEST: usize = 1125899906842624;
 
 // Whether each line's first end is below the second, both are nodes, and its width is not too large.
 fn lines_fit(k: usize, firsts: &[usize], seconds: &[usize], widths: &[usize]) -> bool

@@ -5,7 +5,7 @@ use rules::LINES;
 ghost use lib.ListN.{length, getD};
 ghost use mathlib.Core.Path.{_≡_};
 ghost use Prim.Native.Nat.{ℕ, _+_, _≤_, _<_, _^_};
-ghost use Rattle.network.specs.Search.{Laid, Way, Passable, Clear, Sent, spareFrom, forthAfter, backAfter};
+ghost use Rattle.network.specs.Search.{Laid, Way, Passable, Clear, Sent, Kept, spareFrom, forthAfter, backAfter};
 
 // The most that can go from place 0 to place `end`, and no more than `limit`.
 pub fn narrowest(
@@ -81,6 +81,7 @@ pub fn send(
     requires { ⌜ Clear (now firsts) (now forth) (now back) (now node) (now via) (now from) amount end ⌝ }
     requires { ⌜ ((l : ℕ) → l < length (now firsts) → getD (now forth) l 0 + getD (now back) l 0 < 2 ^ 63) ⌝ }
     ensures { λ _. ⌜ Sent (now (firsts .entry)) (now (seconds .entry)) (getD (now (node .entry)) 0 0) (getD (now (node .entry)) end 0) amount (now (forth .entry)) (now (back .entry)) (now (forth .exit)) (now (back .exit)) ⌝ }
+    ensures { λ _. ⌜ Kept (now (firsts .entry)) (now (node .entry)) (now (via .entry)) (now (from .entry)) end amount (now (forth .entry)) (now (back .entry)) (now (forth .exit)) (now (back .exit)) ⌝ }
 {
     let mut j = end;
     while 0 < j {

@@ -13,7 +13,7 @@ use Rattle.network.proofs.reach.look.Tie as tie
 
 -- the place of a device
 place : (c : tie.Start) → c .args .h < 128
-place c = omega (arith, c .pre .1 .0 .0, count-most (c .pre .1 .1 .tree))
+place c = omega (arith, c .pre .1 .0 .0, count-most (c .pre .1 .1 .covered .tree))
 
 mul-u : tie.Need-mul-u
 mul-u c = omega (arith, place (c .before .before))
@@ -44,7 +44,7 @@ element-copy-out-if2 c = far c
 returns-2 : tie.Need-returns-2
 returns-2 c =
     let s = c .before .before .before .before .before .before .before .before in
-    ((λ e. scan-same (s .args .l) (s .pre .1 .1) (λ r. rw (← c .before .before .far-end .ensures) (mark-one (s .pre .1 .1 .tree) _ (far (c .before .before)) (c .if2 .taken)))), ((λ e. absurd (false≢true e)), (omega arith, refl)))
+    ((λ e. scan-same (s .args .l) (s .pre .1 .1) (λ r. rw (← c .before .before .far-end .ensures) (mark-one (s .pre .1 .1 .covered .tree) _ (far (c .before .before)) (c .if2 .taken)))), ((λ e. absurd (false≢true e)), (omega arith, refl)))
 
 -- the line leads to a device that is not marked
 leads : (c : tie.Else2) → Leads (now (c .before .before .before .before .before .before .before .before .args .firsts)) (now (c .before .before .before .before .before .before .before .before .args .seconds)) (now (c .before .before .before .before .before .before .before .before .args .forth)) (now (c .before .before .before .before .before .before .before .before .args .back)) (now (c .before .before .before .before .before .before .before .before .args .node)) (now (c .before .before .before .before .before .before .before .before .args .mark)) (c .before .before .before .before .before .before .before .before .args .count) (c .before .before .before .before .before .before .before .before .args .h) (c .before .before .before .before .before .before .before .before .args .l) (c .before .before .far-end .result)
@@ -62,7 +62,7 @@ leads c =
 small : (c : tie.After-tick-arg) → c .before .before .before .before .before .before .before .before .before .args .count < 128
 small c =
     let s = c .before .before .before .before .before .before .before .before .before in
-    count-small (s .pre .0) (s .pre .1 .1 .tree) (leads (c .before)) (c .tick-arg .given .0 .1)
+    count-small (s .pre .0) (s .pre .1 .1 .covered .tree) (leads (c .before)) (c .tick-arg .given .0 .1)
 
 tick-requires : tie.Need-tick-requires
 tick-requires c κs = rw (c .tick-arg .given .0 .1) (far (c .before .before .before))
@@ -89,7 +89,7 @@ returns-3 : tie.Need-returns-3
 returns-3 c =
     let q = c .before .before in
     let s = c .before .before .before .before .before .before .before .before .before .before .before .before .before .before .before .before .before .before in
-    ((λ e. rw (q .before .before .before .before .put .ensures, q .before .before .put2 .ensures, q .put3 .ensures, q .before .before .before .before .before .before .tick .ensures) (scan-more (s .pre .0) (s .pre .1 .1 .tree) (leads (q .before .before .before .before .before .before .before .before)) (q .before .before .before .before .before .before .before .tick-arg .given .0 .1) (q .before .before .before .before .before .put-arg .given .0 .1) (q .before .before .before .put-arg2 .given .0 .1) (q .before .put-arg3 .given .0 .1) (s .pre .1 .1) (c .if3 .taken))), ((λ e. absurd (false≢true e)), (omega arith, rw (q .before .before .before .before .put .ensures) (getD-set-other (now (s .args .node)) (s .args .count) (s .args .h) _ 0 (omega (arith, s .pre .1 .0 .0))))))
+    ((λ e. rw (q .before .before .before .before .put .ensures, q .before .before .put2 .ensures, q .put3 .ensures, q .before .before .before .before .before .before .tick .ensures) (scan-more (s .pre .0) (s .pre .1 .1 .covered .tree) (leads (q .before .before .before .before .before .before .before .before)) (q .before .before .before .before .before .before .before .tick-arg .given .0 .1) (q .before .before .before .before .before .put-arg .given .0 .1) (q .before .before .before .put-arg2 .given .0 .1) (q .before .put-arg3 .given .0 .1) (s .pre .1 .1) (c .if3 .taken))), ((λ e. absurd (false≢true e)), (omega arith, rw (q .before .before .before .before .put .ensures) (getD-set-other (now (s .args .node)) (s .args .count) (s .args .h) _ 0 (omega (arith, s .pre .1 .0 .0))))))
 
 add-t16 : tie.Need-add-t16
 add-t16 c = omega (arith, small (c .before .before .before .before .before .before .before .before .before))
@@ -98,7 +98,7 @@ returns-4 : tie.Need-returns-4
 returns-4 c =
     let q = c .before .before in
     let s = c .before .before .before .before .before .before .before .before .before .before .before .before .before .before .before .before .before .before in
-    ((λ e. absurd (true≢false e)), ((λ e. rw (q .before .before .before .before .put .ensures, q .before .before .put2 .ensures, q .put3 .ensures, q .before .before .before .before .before .before .tick .ensures) (found-more (s .pre .0) (s .pre .1 .1 .tree) (leads (q .before .before .before .before .before .before .before .before)) (q .before .before .before .before .before .before .before .tick-arg .given .0 .1) (q .before .before .before .before .before .put-arg .given .0 .1) (q .before .before .before .put-arg2 .given .0 .1) (q .before .put-arg3 .given .0 .1) (omega (arith, c .if3 .left)))), (omega arith, rw (q .before .before .before .before .put .ensures) (getD-set-other (now (s .args .node)) (s .args .count) (s .args .h) _ 0 (omega (arith, s .pre .1 .0 .0))))))
+    ((λ e. absurd (true≢false e)), ((λ e. rw (q .before .before .before .before .put .ensures, q .before .before .put2 .ensures, q .put3 .ensures, q .before .before .before .before .before .before .tick .ensures) (found-more (s .pre .0) (s .pre .1 .1 .covered .tree) (leads (q .before .before .before .before .before .before .before .before)) (q .before .before .before .before .before .before .before .tick-arg .given .0 .1) (q .before .before .before .before .before .put-arg .given .0 .1) (q .before .before .before .put-arg2 .given .0 .1) (q .before .put-arg3 .given .0 .1) (s .pre .1 .1) (omega (arith, c .if3 .left)))), (omega arith, rw (q .before .before .before .before .put .ensures) (getD-set-other (now (s .args .node)) (s .args .count) (s .args .h) _ 0 (omega (arith, s .pre .1 .0 .0))))))
 
 pub look-spec : {M : Type 1} → statement M
 look-spec =

@@ -1,86 +1,41 @@
--- `network::reach::search` meets its contract. The loop's invariant is `Scan` with all lines of the device at place h ahead. The measure is what is left of the 128 places.
+-- `network::reach::search` meets its contract: the search begins or goes on where it stands, and either way is `Ready`.
 -- Assumes nothing.
-use mathlib.Core.Path.{_≡_}
-use mathlib.Core.Bool.{true≢false, false≢true}
-use Prim.Native.Nat.{_-_}
+use Prim.Native.Nat.{_≤_}
+use mathlib.Core.Path.{_≡_, sym, _∙_}
+use mathlib.Core.Logic.{⊎-elim}
+use mathlib.Core.Bool.{true≢false}
 use native.Mathlib.Omega.{arith}
 use borrow.Author.Needs.{needs}
-use lib.ListN.{length}
-use Rattle.network.specs.Search.{Scan}
-use Rattle.network.proofs.ReachLaws.{count-most, scan-begin, found-begin}
+use denote.Ref.{now}
+use Rattle.network.proofs.ReachLaws.{Ready, ready-begin, ready-standing}
 use Rattle.network.proofs.reach.search.Statement.{statement}
 use Rattle.network.proofs.reach.search.Tie as tie
 
-abbrev Inv-loop : tie.InvT-loop
-Inv-loop firsts seconds last before-first before-second forth back drain node₀ via₀ from₀ mark₀ d count₀ h₀ node via from mark count h =
-    Scan firsts seconds forth back drain d node via from mark count h (length firsts)
-
-abbrev μ-loop : tie.MeasureT-loop
-μ-loop firsts seconds last before-first before-second forth back drain node₀ via₀ from₀ mark₀ d count₀ h₀ node via from mark count h = 128 - h
-
-begin-requires : tie.Need-begin-requires Inv-loop μ-loop
+begin-requires : tie.Need-begin-requires
 begin-requires c κs = search needs
 
-mul-if1 : tie.Need-mul-if1 Inv-loop μ-loop
-mul-if1 c = search needs
+-- where the two ways meet
+ready : (c : tie.Joined1) → Ready (now (c .before .before .before .args .firsts)) (now (c .before .before .before .args .seconds)) (now (c .before .before .before .args .forth)) (now (c .before .before .before .args .back)) (now (c .before .before .before .args .drain)) (c .before .before .before .args .d) (c .if1 .node) (now (c .before .before .before .args .via)) (now (c .before .before .before .args .from)) (c .if1 .mark) (c .if1 .front .found) (c .if1 .front .count) (c .if1 .front .place) (c .if1 .front .rest)
+ready c =
+    let s = c .before .before .before in
+    ⊎-elim (λ w. rw (w .4, w .5, w .6, w .3 .ensures .0 .0, w .3 .ensures .0 .1, w .3 .ensures .0 .2) (ready-begin _ _ _ _ _ _ _ _ _ (s .pre .1 .0) (w .3 .ensures .1 .1 .1 .0) (w .3 .ensures .1 .1 .1 .1) _ (s .pre .1 .1 .0 .last _ (s .pre .1 .0)) (w .3 .ensures .1 .0) (w .3 .ensures .1 .1 .0)))
+    (λ w. let o : 1 ≤ s .args .count = omega (arith, w .0 .left) in rw (w .1, w .2, w .3) (ready-standing (s .pre .1 .1 .1 .1 o))) (c .if1 .came)
 
-element-copy-out-if1 : tie.Need-element-copy-out-if1 Inv-loop μ-loop
-element-copy-out-if1 c = search needs
-
-returns : tie.Need-returns Inv-loop μ-loop
+returns : tie.Need-returns
 returns c =
-    let s = c .before .before .before .before .before .before .before in
-    let begun = c .before .before .begin .ensures in
-    ((λ e. absurd (true≢false e)), (λ e. found-begin _ _ _ _ _ _ _ _ _ (s .pre .1 .0) (begun .0) (begun .1) _ (c .if1 .taken)))
+    let r = ready (c .before) in
+    ((λ e. absurd (true≢false (sym (c .if2 .taken) ∙ e))), (r .some, r .ahead))
 
-loop-holds : tie.Need-loop-holds Inv-loop μ-loop
-loop-holds c =
-    let s = c .before .before .before .before .before .before .before in
-    let begun = c .before .before .begin .ensures in
-    scan-begin _ _ _ _ _ _ _ _ _ (s .pre .1 .0) (begun .0) (begun .1) _ (omega (arith, c .if1 .left))
+go-on-requires : tie.Need-go-on-requires
+go-on-requires c κs =
+    let standing = ready (c .before .before .before .before .before) .none (c .before .before .before .before .if2 .left) in
+    let s = c .before .before .before .before .before .before .before .before in
+    (s .pre .0, (s .pre .1 .1 .0, (s .pre .1 .1 .1 .0, rw (standing .scan .covered .tree .root) standing)))
 
-spread-requires : tie.Need-spread-requires Inv-loop μ-loop
-spread-requires c κs =
-    let inv = c .before .before .before .before .before .loop .inv in
-    let s = c .before .before .before .before .before .before .before .before .before .before .before .before .before in
-    (s .pre .0, (s .pre .1 .1 .0, (s .pre .1 .1 .1, (c .before .before .before .before .loop-test .taken, rw (inv .tree .root) inv))))
-
-returns-2 : tie.Need-returns-2 Inv-loop μ-loop
+returns-2 : tie.Need-returns-2
 returns-2 c =
-    let inv = c .before .before .before .before .before .before .before .loop .inv in
-    ((λ e. absurd (true≢false e)), (λ e. rw (← inv .tree .root) (c .before .spread .ensures .1 (c .if2 .taken))))
-
-add-h : tie.Need-add-h Inv-loop μ-loop
-add-h c = omega (arith, c .before .before .before .before .before .before .loop-test .taken, count-most (c .before .before .before .before .before .before .before .loop .inv .tree))
-
-loop-less : tie.Need-loop-less Inv-loop μ-loop
-loop-less c = omega (arith, c .before .before .before .before .before .before .loop-test .taken, count-most (c .before .before .before .before .before .before .before .loop .inv .tree))
-
-loop-again : tie.Need-loop-again Inv-loop μ-loop
-loop-again c =
-    let inv = c .before .before .before .before .before .before .before .loop .inv in
-    rw (← inv .tree .root) (c .before .spread .ensures .0 (c .if2 .left))
-
-returns-3 : tie.Need-returns-3 Inv-loop μ-loop
-returns-3 c =
-    let inv = c .before .loop .inv in
-    let done : c .before .loop .h ≡ c .before .loop .count = omega (arith, inv .place, c .loop-test .left) in
-    ((λ e. rw done at inv), (λ e. absurd (false≢true e)))
+    let standing = ready (c .before .before .before .before .before .before) .none (c .before .before .before .before .before .if2 .left) in
+    rw (← standing .scan .covered .tree .root) (c .go-on .ensures)
 
 pub search-spec : {M : Type 1} → statement M
-search-spec =
-    tie.close
-    (tie.spec
-    Inv-loop
-    μ-loop
-    begin-requires
-    mul-if1
-    element-copy-out-if1
-    returns
-    loop-holds
-    spread-requires
-    returns-2
-    add-h
-    loop-less
-    loop-again
-    returns-3)
+search-spec = tie.close (tie.spec begin-requires returns go-on-requires returns-2)
