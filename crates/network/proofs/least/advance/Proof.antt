@@ -65,7 +65,7 @@ returns c =
     let amount = c .before .before .before .before .before .lesser .ensures in
     let most = getD (now (s .args .drain)) (getD (now (s .args .node)) (s .args .count - 1) 0) 0 in
     let within : getD (now (s .args .node)) (s .args .count - 1) 0 < length (now (s .args .drain)) = rw (c .before .put-arg .given .0 .1) (end-below s) in
-    (rw (c .put .ensures) (drains-less (now (s .args .drain)) _ _ (end-below s) within (amount .3 (led .wet _ (led-last led)) (narrow .0 .0)) (amount .0)), ((λ k zs ds below spares. rw (c .put .ensures) (led-sent led (c .before .before .send .ensures .0) below spares within (amount .0))), (λ e marks h k found. let less : most < c .before .before .before .before .before .before .narrowest .result = ltb-true _ _ e in let all : c .before .before .before .before .before .lesser .result ≡ most = amount .2 (omega arith) in rw (c .put .ensures) (scan-kept found (c .before .before .send .ensures .1) (clear-less (omega arith) (narrow .1)) _ (omega arith) within))))
+    (rw (c .put .ensures) (drains-less (now (s .args .drain)) _ _ (end-below s) within (amount .3 (led .wet _ (led-last led)) (narrow .0 .0)) (amount .0)), ((λ k zs ds below spares. rw (c .put .ensures) (led-sent led (c .before .before .send .ensures .0) below spares within (amount .0))), (λ e marks h k found. let less : most < c .before .before .before .before .before .before .narrowest .result = omega (arith, ltb-true) in let all : c .before .before .before .before .before .lesser .result ≡ most = amount .2 (omega arith) in rw (c .put .ensures) (scan-kept found (c .before .before .send .ensures .1) (clear-less (omega arith) (narrow .1)) _ (omega arith) within))))
 
 pub advance-spec : {M : Type 1} → statement M
 advance-spec =

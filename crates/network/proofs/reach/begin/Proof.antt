@@ -4,7 +4,7 @@ use Prim.Native.Nat.{_<_}
 use mathlib.Core.Path.{refl}
 use native.Mathlib.Omega.{arith}
 use denote.Ref.{now}
-use lib.ListN.{length, getD}
+use lib.ListN.{length}
 use lib.Seq.{getD-set-same}
 use borrow.Author.Tests.{ltb-true, ltb-false}
 use Rattle.network.proofs.ReachLaws.{marks-begin}
@@ -34,7 +34,7 @@ returns : tie.Need-returns
 returns c =
     let s = c .before .before .before .before .before .before .before in
     let l : 0 < length (now (s .args .node)) = omega arith in
-    ((refl, refl, refl), ((λ e. omega (arith, ltb-false 0 (getD (now (s .args .drain)) (s .args .d) 0) e)), ((λ e. ltb-true _ _ e), (rw (c .before .before .put .ensures) (getD-set-same (now (s .args .node)) 0 (s .args .d) 0 l), rw (c .before .before .before .before .tick .ensures) (marks-begin (s .args .d) (s .pre))))))
+    ((refl, refl, refl), ((λ e. omega (arith, ltb-false)), ((λ e. omega (arith, ltb-true)), (rw (c .before .before .put .ensures) (getD-set-same (now (s .args .node)) 0 (s .args .d) 0 l), rw (c .before .before .before .before .tick .ensures) (marks-begin (s .args .d) (s .pre))))))
 
 pub begin-spec : {M : Type 1} → statement M
 begin-spec =

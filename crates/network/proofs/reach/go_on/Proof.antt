@@ -4,8 +4,9 @@ use Prim.Native.Nat.{_-_, _≤_}
 use mathlib.Core.Path.{_≡_, sym, _∙_}
 use mathlib.Core.Bool.{true≢false, false≢true}
 use native.Mathlib.Omega.{arith}
+use denote.Ref.{now}
 use lib.ListN.{getD}
-use Rattle.network.specs.Search.{Standing}
+use Rattle.network.specs.Search.{Tree, Standing}
 use Rattle.network.proofs.ReachLaws.{count-most, scan-done, standing-place}
 use Rattle.network.proofs.reach.go_on.Statement.{statement}
 use Rattle.network.proofs.reach.go_on.Tie as tie
@@ -39,10 +40,12 @@ small c = omega (arith, c .loop-test .taken, count-most (c .before .loop .inv .s
 add-h : tie.Need-add-h Inv-loop μ-loop
 add-h c = omega (arith, small (c .before .before .before .before .before .before))
 
+-- the tree at the next place
+tree : (c : tie.Else1 Inv-loop μ-loop) → Tree (now (c .before .before .before .before .before .before .before .before .before .before .args .firsts)) (now (c .before .before .before .before .before .before .before .before .before .before .args .seconds)) (now (c .before .before .before .before .before .before .before .before .before .before .args .forth)) (now (c .before .before .before .before .before .before .before .before .before .before .args .back)) (getD (c .before .before .before .before .before .before .before .loop .node) 0 0) (c .before .spread .last .1 .1 .1 .1 .1 .1 .1 .0) (c .before .spread .last .1 .1 .1 .1 .1 .1 .1 .1 .0) (c .before .spread .last .1 .1 .1 .1 .1 .1 .1 .1 .1 .0) (c .before .spread .last .1 .1 .1 .1 .1 .1 .1 .1 .1 .1 .0) (c .before .spread .result .count)
+tree c = c .before .spread .ensures .0 (c .if1 .left) .covered .tree
+
 last-line-requires : tie.Need-last-line-requires Inv-loop μ-loop
-last-line-requires c κs =
-    let tree = c .before .before .spread .ensures .0 (c .before .if1 .left) .covered .tree in
-    (count-most tree, tree .device _)
+last-line-requires c κs = (count-most (tree (c .before)), tree (c .before) .device _)
 
 loop-less : tie.Need-loop-less Inv-loop μ-loop
 loop-less c = omega (arith, small (c .before .before .before .before .before .before .before .before))
@@ -51,8 +54,7 @@ loop-again : tie.Need-loop-again Inv-loop μ-loop
 loop-again c =
     let inv = c .before .before .before .before .before .before .before .before .before .loop .inv in
     let s = c .before .before .before .before .before .before .before .before .before .before .before .before in
-    let scan = c .before .before .before .spread .ensures .0 (c .before .before .if1 .left) in
-    standing-place (rw (← inv .scan .covered .tree .root) scan) (λ o. rw (c .last-line .ensures .0 o) (s .pre .1 .0 .last _ (scan .covered .tree .device _ o))) (c .last-line .ensures .1)
+    standing-place (rw (← inv .scan .covered .tree .root) (c .before .before .before .spread .ensures .0 (c .before .before .if1 .left))) (λ o. rw (c .last-line .ensures .0 o) (s .pre .1 .0 .last _ (tree (c .before .before) .device _ o))) (c .last-line .ensures .1)
 
 returns-2 : tie.Need-returns-2 Inv-loop μ-loop
 returns-2 c = ((λ e. scan-done (c .before .loop .inv .scan) (c .loop-test .left)), ((λ e. absurd (false≢true e)), (λ e. absurd (false≢true e))))

@@ -1,6 +1,5 @@
 -- `network::reach::search` meets its contract: the search begins or goes on where it stands, and either way is `Ready`.
 -- Assumes nothing.
-use Prim.Native.Nat.{_≤_}
 use mathlib.Core.Path.{_≡_, sym, _∙_}
 use mathlib.Core.Logic.{⊎-elim}
 use mathlib.Core.Bool.{true≢false}
@@ -17,9 +16,8 @@ begin-requires c κs = search needs
 -- where the two ways meet
 ready : (c : tie.Joined1) → Ready (now (c .before .before .before .args .firsts)) (now (c .before .before .before .args .seconds)) (now (c .before .before .before .args .forth)) (now (c .before .before .before .args .back)) (now (c .before .before .before .args .drain)) (c .before .before .before .args .d) (c .if1 .node) (now (c .before .before .before .args .via)) (now (c .before .before .before .args .from)) (c .if1 .mark) (c .if1 .front .found) (c .if1 .front .count) (c .if1 .front .place) (c .if1 .front .rest)
 ready c =
-    let s = c .before .before .before in
-    ⊎-elim (λ w. rw (w .4, w .5, w .6, w .3 .ensures .0 .0, w .3 .ensures .0 .1, w .3 .ensures .0 .2) (ready-begin _ _ _ _ _ _ _ _ _ (s .pre .1 .0) (w .3 .ensures .1 .1 .1 .0) (w .3 .ensures .1 .1 .1 .1) _ (s .pre .1 .1 .0 .last _ (s .pre .1 .0)) (w .3 .ensures .1 .0) (w .3 .ensures .1 .1 .0)))
-    (λ w. let o : 1 ≤ s .args .count = omega (arith, w .0 .left) in rw (w .1, w .2, w .3) (ready-standing (s .pre .1 .1 .1 .1 o))) (c .if1 .came)
+    ⊎-elim (λ w. rw (w .4, w .5, w .6, w .3 .ensures .0 .0, w .3 .ensures .0 .1, w .3 .ensures .0 .2) (ready-begin _ _ _ _ _ _ _ _ _ (c .before .before .before .pre .1 .0) (w .3 .ensures .1 .1 .1 .0) (w .3 .ensures .1 .1 .1 .1) _ (c .before .before .before .pre .1 .1 .0 .last _ (c .before .before .before .pre .1 .0)) (w .3 .ensures .1 .0) (w .3 .ensures .1 .1 .0)))
+    (λ w. rw (w .1, w .2, w .3) (ready-standing (c .before .before .before .pre .1 .1 .1 .1 (omega (arith, w .0 .left))))) (c .if1 .came)
 
 returns : tie.Need-returns
 returns c =

@@ -2,11 +2,12 @@
 -- Assumes nothing.
 use mathlib.Core.Path.{_≡_, refl, _∙_}
 use mathlib.Core.Bool.{true≢false, false≢true}
-use Prim.Native.Nat.{_<_}
+use Prim.Native.Nat.{_-_, _<_}
+use denote.Ref.{now}
 use native.Mathlib.Omega.{arith}
 use borrow.Author.Needs.{needs}
 use lib.ListN.{getD}
-use Rattle.network.specs.Search.{Standing}
+use Rattle.network.specs.Search.{Before, Standing}
 use Rattle.network.proofs.ReachLaws.{count-most, rest-before, standing-line, standing-below, standing-own, standing-scan, found-gap, scan-next}
 use Rattle.network.proofs.reach.spread.Statement.{statement}
 use Rattle.network.proofs.reach.spread.Tie as tie
@@ -49,13 +50,19 @@ line-before-requires c κs =
     let s = c .before .before .before .before .before .before .before .before .before .before in
     ((standing-below (inv .2) some, s .pre .0 .few), (rw (inv .1) at (standing-own (inv .2) some), s .pre .1 .0))
 
+-- the device is still there, and this is its line before
+same : (c : tie.After-look Inv-loop μ-loop) → getD (c .look .last .1 .1 .1 .1 .1 .0) (c .before .before .before .before .before .before .before .before .before .before .args .h) 0 ≡ getD (now (c .before .before .before .before .before .before .before .before .before .before .args .node)) (c .before .before .before .before .before .before .before .before .before .before .args .h) 0
+same c = c .look .ensures .1 .1 .1 ∙ c .before .before .before .before .before .before .loop .inv .1
+
+gap : (c : tie.After-line-before Inv-loop μ-loop) → Before (now (c .before .before .before .before .before .before .before .before .before .before .before .args .firsts)) (now (c .before .before .before .before .before .before .before .before .before .before .before .args .seconds)) (getD (c .before .look .last .1 .1 .1 .1 .1 .0) (c .before .before .before .before .before .before .before .before .before .before .before .args .h) 0) (c .before .before .before .before .before .before .before .loop .rest - 1) (c .line-before .result)
+gap c = rw (same (c .before)) (c .line-before .ensures)
+
 returns : tie.Need-returns Inv-loop μ-loop
 returns c =
     let inv = c .before .before .before .before .before .before .before .before .loop .inv in
     let some = c .before .before .before .before .before .before .before .loop-test .taken in
     let looked = c .before .before .look .ensures in
-    let gap = rw (← (looked .1 .1 .1 ∙ inv .1)) at (c .before .line-before .ensures) in
-    ((λ e. absurd (true≢false e)), ((λ e. found-gap (rw (← inv .2 .scan .covered .tree .root) (looked .1 .0 (c .if1 .taken))) gap), (λ e. rest-before gap (omega (arith, standing-below (inv .2) some)))))
+    ((λ e. absurd (true≢false e)), ((λ e. found-gap (rw (← inv .2 .scan .covered .tree .root) (looked .1 .0 (c .if1 .taken))) (gap (c .before))), (λ e. rest-before (gap (c .before)) (omega (arith, standing-below (inv .2) some)))))
 
 loop-less : tie.Need-loop-less Inv-loop μ-loop
 loop-less c = omega (arith, c .before .line-before .ensures .at-most, c .before .before .before .before .before .before .before .loop-test .taken)
@@ -65,8 +72,7 @@ loop-again c =
     let inv = c .before .before .before .before .before .before .before .before .loop .inv in
     let some = c .before .before .before .before .before .before .before .loop-test .taken in
     let looked = c .before .before .look .ensures in
-    let same = looked .1 .1 .1 ∙ inv .1 in
-    (omega (arith, inv .0, looked .1 .1 .0), same, standing-line (rw (← inv .2 .scan .covered .tree .root) (looked .0 (c .if1 .left))) (omega (arith, standing-below (inv .2) some)) (rw (← same) at (c .before .line-before .ensures)))
+    (omega (arith, inv .0, looked .1 .1 .0), same (c .before .before), standing-line (rw (← inv .2 .scan .covered .tree .root) (looked .0 (c .if1 .left))) (omega (arith, standing-below (inv .2) some)) (gap (c .before)))
 
 returns-2 : tie.Need-returns-2 Inv-loop μ-loop
 returns-2 c =
