@@ -9,9 +9,12 @@ use native.Mathlib.Nat.{le-refl, lt-of-le-of-lt, mul-add}
 use native.Mathlib.Omega.{arith}
 use lib.Dec.{eqb}
 use borrow.Author.Tests.{eqb-true, eq-eqb, not-true}
-use Rattle.rules.specs.Plant.{Line, Plant, EndsBelow, Sound}
-use Rattle.rules.specs.Cut.{Devices, crossing, out, sizeAt, sizeBelow, size, cost, Inside, Agree, between}
-use Rattle.rules.specs.Community.{community, IsCommunityIn}
+use Rattle.rules.specs.Plant.{Line, Plant}
+use Rattle.rules.specs.Accepted.{EndsBelow, Sound}
+use Rattle.rules.specs.Cut.{Devices, crossing, out, sizeAt, sizeBelow, size, cost}
+use Rattle.rules.specs.Sets.{Inside, Agree, between}
+use Rattle.rules.specs.Community.{community}
+use Rattle.rules.specs.CommunityIs.{IsCommunityIn}
 use Rattle.rules.specs.Groups.{groupOf, lowest}
 use Rattle.rules.specs.Network.{drained, netCost, IsLeast, one, widthBetween, ofNodes, Contracts}
 use Rattle.rules.proofs.SetLaws.{and-left, and-right, same-bool, agree-both}

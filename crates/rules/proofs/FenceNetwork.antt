@@ -8,9 +8,12 @@ use native.Mathlib.Nat.{mul-zero, mul-add}
 use native.Mathlib.Omega.{arith}
 use lib.Dec.{eqb}
 use borrow.Author.Tests.{eqb-true, eqb-false, eq-eqb, ne-eqb}
-use Rattle.rules.specs.Plant.{Line, Plant, EndsBelow, Sound}
-use Rattle.rules.specs.Cut.{Devices, sizeAt, sizeBelow, size, cost, Inside, Agree, between}
-use Rattle.rules.specs.Community.{communityIn, IsCommunityIn}
+use Rattle.rules.specs.Plant.{Line, Plant}
+use Rattle.rules.specs.Accepted.{EndsBelow, Sound}
+use Rattle.rules.specs.Cut.{Devices, sizeAt, sizeBelow, size, cost}
+use Rattle.rules.specs.Sets.{Inside, Agree, between}
+use Rattle.rules.specs.Community.{communityIn}
+use Rattle.rules.specs.CommunityIs.{IsCommunityIn}
 use Rattle.rules.specs.Network.{drained, netCost, IsLeast, one, widthBetween, Contracts, fenceLines, fenceDrain}
 use Rattle.rules.proofs.SetLaws.{and-left, and-right}
 use Rattle.rules.proofs.Sums.{meet, agree-cost, size-inside}

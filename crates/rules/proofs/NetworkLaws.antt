@@ -10,7 +10,8 @@ use native.Mathlib.Omega.{arith}
 use lib.Dec.{eqb}
 use borrow.Author.Tests.{eq-eqb, ne-eqb}
 use Rattle.rules.specs.Plant.{Line}
-use Rattle.rules.specs.Cut.{Devices, Agree}
+use Rattle.rules.specs.Cut.{Devices}
+use Rattle.rules.specs.Sets.{Agree}
 use Rattle.rules.specs.Network.{drained, IsLeast}
 use Rattle.rules.proofs.SetLaws.{agree-both}
 

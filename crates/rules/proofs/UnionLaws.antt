@@ -5,9 +5,12 @@ use mathlib.Core.Path.{_≡_, refl, ap}
 use mathlib.Core.Bool.{Bool, true, false}
 use native.Mathlib.Nat.{lt-of-not-le, mul-add, le-of-mul-le-mul-left, lt-of-mul-lt-mul-left}
 use native.Mathlib.Omega.{arith}
-use Rattle.rules.specs.Plant.{Plant, Sound}
-use Rattle.rules.specs.Cut.{Devices, out, size, cost, Inside, Agree, minus}
-use Rattle.rules.specs.Community.{community, IsCommunity}
+use Rattle.rules.specs.Plant.{Plant}
+use Rattle.rules.specs.Accepted.{Sound}
+use Rattle.rules.specs.Cut.{Devices, out, size, cost}
+use Rattle.rules.specs.Sets.{Inside, Agree, minus}
+use Rattle.rules.specs.Community.{community}
+use Rattle.rules.specs.CommunityIs.{IsCommunity}
 use Rattle.rules.specs.Groups.{groupOf}
 use Rattle.rules.proofs.SetLaws.{agree-sym, agree-trans, agree-inside}
 use Rattle.rules.proofs.Sums.{meet, out-posimodular, size-minus, size-holds}

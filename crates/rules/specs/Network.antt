@@ -1,12 +1,14 @@
--- The search for a community as a part of its own, with no plant and no rate: a network has nodes 0 to k − 1, lines that join two nodes and have a width, a drain for each node, and a start. The width of a line stands where a plant's line has its signals. No public contract cites this file.
+-- The search for a community as a part of its own, with no plant and no rate: a network has nodes 0 to k − 1, lines that join two nodes and have a width, a drain for each node, and a start. The width of a line stands where a plant's line has its signals. The contract of the crate `network` cites `netCost` and `IsLeast`; only the laws speak of what follows them.
 -- Assumes nothing.
 use Prim.Native.Nat.{ℕ, zero, suc, _+_, _*_, _≤_, _<_}
 use mathlib.Core.Path.{_≡_}
 use mathlib.Core.Bool.{true, not, _&&_, cond}
 use mathlib.Core.List.{List, [], _∷_}
 use lib.Dec.{eqb}
-use Rattle.rules.specs.Plant.{Line, Plant, EndsBelow}
-use Rattle.rules.specs.Cut.{Devices, Inside, out, size, sizeAt, between}
+use Rattle.rules.specs.Plant.{Line, Plant}
+use Rattle.rules.specs.Accepted.{EndsBelow}
+use Rattle.rules.specs.Cut.{Devices, out, size, sizeAt}
+use Rattle.rules.specs.Sets.{Inside, between}
 
 -- the drains of those nodes below k that are in S
 unfoldable pub drained : (ℕ → ℕ) → ℕ → Devices → ℕ
