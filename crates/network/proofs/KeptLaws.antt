@@ -1,7 +1,7 @@
 -- The tree kept: a send that leaves something to spare on every line of its way keeps the search's state true. Each line of the queue still has something to spare, a spare that grew leads between two marked devices, and the device that was found has no drain left. So the search goes on where it stands.
 -- Assumes nothing.
 use Prim.Native.Nat.{ℕ, _+_, _-_, _≤_, _<_}
-use mathlib.Core.Path.{_≡_, sym, _∙_}
+use mathlib.Core.Path.{_≡_, _∙_}
 use mathlib.Core.Logic.{⊎-elim}
 use mathlib.Core.Bool.{true}
 use mathlib.Core.List.{List}
@@ -9,7 +9,7 @@ use native.Mathlib.Decide.{ℕ-discrete}
 use native.Mathlib.Omega.{arith}
 use lib.ListN.{length, getD, set}
 use lib.Seq.{getD-set-same, getD-set-other}
-use Rattle.network.specs.Search.{spareFrom, farEnd, touches, Tree, Covered, Scan, Found, Clear, Kept, Shut}
+use Rattle.network.specs.Search.{farEnd, touches, Tree, Covered, Scan, Found, Clear, Kept, Shut}
 use Rattle.network.proofs.PathLaws.{far-two}
 
 module _ {xs ys fs rs : List ℕ} {d : ℕ} {nodes vias froms marks : List ℕ} {count : ℕ} (tree : Tree xs ys fs rs d nodes vias froms marks count) where

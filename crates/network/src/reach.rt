@@ -8,7 +8,7 @@ ghost use mathlib.Core.Path.{_≡_};
 ghost use mathlib.Core.Bool.{true, false, cond};
 ghost use lib.Dec.{eqb};
 ghost use Prim.Native.Nat.{ℕ, _+_, _≤_, _<_};
-ghost use Rattle.network.specs.Search.{Laid, Before, Lasts, Priors, Scan, Found, Rest, Standing, touches, farEnd, spareFrom};
+ghost use Rattle.network.specs.Search.{Laid, Lasts, Priors, Scan, Found, Rest, Standing, touches, farEnd, spareFrom};
 
 // How many devices stand in the queue, and whether the last of them has drain left.
 struct Seen {

@@ -1,6 +1,6 @@
 -- `network::least::advance` meets its contract: the way that was found has something to spare, and what goes along it leaves by the last node's drain. Where that is all of the drain and less than the way has to spare, the tree is kept.
 -- Assumes nothing.
-use Prim.Native.Nat.{_+_, _-_, _≤_, _<_}
+use Prim.Native.Nat.{_-_, _<_}
 use mathlib.Core.Path.{_≡_}
 use native.Mathlib.Omega.{arith}
 use denote.Ref.{now}

@@ -1,7 +1,7 @@
 -- `network::reach::go_on` meets its contract. The loop's invariant is `Standing`. The measure is what is left of the 128 places.
 -- Assumes nothing.
 use Prim.Native.Nat.{_-_, _≤_}
-use mathlib.Core.Path.{_≡_, sym, _∙_}
+use mathlib.Core.Path.{sym, _∙_}
 use mathlib.Core.Bool.{true≢false, false≢true}
 use native.Mathlib.Omega.{arith}
 use denote.Ref.{now}
@@ -25,7 +25,7 @@ spread-requires : tie.Need-spread-requires Inv-loop μ-loop
 spread-requires c κs =
     let inv = c .before .before .before .before .before .loop .inv in
     let s = c .before .before .before .before .before .before .before .before in
-    (s .pre .0, (s .pre .1 .1 .0, (c .before .before .before .before .loop-test .taken, rw (inv .scan .covered .tree .root) inv)))
+    (s .pre .0, (s .pre .1 .1 .0, (omega arith, rw (inv .scan .covered .tree .root) inv)))
 
 returns : tie.Need-returns Inv-loop μ-loop
 returns c =
@@ -57,7 +57,7 @@ loop-again c =
     standing-place (rw (← inv .scan .covered .tree .root) (c .before .before .before .spread .ensures .0 (c .before .before .if1 .left))) (λ o. rw (c .last-line .ensures .0 o) (s .pre .1 .0 .last _ (tree (c .before .before) .device _ o))) (c .last-line .ensures .1)
 
 returns-2 : tie.Need-returns-2 Inv-loop μ-loop
-returns-2 c = ((λ e. scan-done (c .before .loop .inv .scan) (c .loop-test .left)), ((λ e. absurd (false≢true e)), (λ e. absurd (false≢true e))))
+returns-2 c = ((λ e. scan-done (c .before .loop .inv .scan) (omega arith)), ((λ e. absurd (false≢true e)), (λ e. absurd (false≢true e))))
 
 pub go-on-spec : {M : Type 1} → statement M
 go-on-spec =

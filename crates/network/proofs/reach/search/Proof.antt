@@ -1,6 +1,6 @@
 -- `network::reach::search` meets its contract: the search begins or goes on where it stands, and either way is `Ready`.
 -- Assumes nothing.
-use mathlib.Core.Path.{_≡_, sym, _∙_}
+use mathlib.Core.Path.{sym, _∙_}
 use mathlib.Core.Logic.{⊎-elim}
 use mathlib.Core.Bool.{true≢false}
 use native.Mathlib.Omega.{arith}
