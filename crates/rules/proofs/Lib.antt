@@ -23,6 +23,10 @@
 --     Divides       a lower rate never divides a group of a higher one
 --     Instance      the communities at a rate are such a family; the laws of groups for all positive fractions
 --     LevelLaws     two group lists of one plant, and their numbers of groups
+--     UnionLaws     the community of a group's own device at a lower rate is a union of groups
+--     NetworkLaws   a network's least set is the only one; sums over nodes
+--     ContractLaws  a network whose nodes are sets of devices: what a set of nodes costs, and its least set
+--     FenceNetwork  the network of a plant inside a fence: its least set is the best set inside the fence
 --     CrossingLaws  the rate that the search between two levels finds
 --     EndLaws       the groups at the highest and at the lowest rates
 --     LadderLaws    levels between two rates: one breakpoint, two ladders joined, and the hierarchy from a whole ladder
@@ -63,3 +67,7 @@ pub mod HierarchyLaws
 pub mod Statements
 pub mod LevelLaws
 pub mod CrossingLaws
+pub mod UnionLaws
+pub mod NetworkLaws
+pub mod ContractLaws
+pub mod FenceNetwork

@@ -9,8 +9,9 @@
 --     Refusals    each cause of a refusal, and the first in the fixed order
 --     Lists       a lent list after a call
 --     Hierarchy   levels, low rates and joining rates
--- What only the laws speak of, and no public contract cites:
 --     Sets        sets of devices against each other: inside, agree, the signals between two
+--     Network     a network, what a set of its nodes costs, the least set that holds its start
+-- What only the laws speak of, and no public contract cites:
 --     CommunityIs the community of a device as a property of a set
 --     Accepted    an accepted plant, and all signals together
 --     Limits      the least and the largest rate
@@ -30,6 +31,7 @@ pub mod Refusals
 pub mod Lists
 pub mod Hierarchy
 pub mod Sets
+pub mod Network
 pub mod CommunityIs
 pub mod Accepted
 pub mod Limits

@@ -1,4 +1,4 @@
--- Sets of devices against each other, as the laws speak of them; no public contract cites this file.
+-- Sets of devices against each other. The contract of the crate `network` cites `Inside`; only the laws speak of the rest.
 -- Assumes nothing.
 use Prim.Native.Nat.{ℕ, _+_, _<_}
 use mathlib.Core.Path.{_≡_}
