@@ -4,8 +4,6 @@ use crate::Form;
 use crate::Reading;
 use crate::reader;
 use cut::check;
-use rules::DEVICES;
-use rules::LINES;
 use rules::Refusal;
 ghost use mathlib.Core.Path.{_≡_};
 ghost use Prim.Native.Nat.{_≤_};
@@ -50,13 +48,13 @@ fn size_fault(n: usize, m: usize) -> Refusal
             place: 0,
         };
     }
-    if DEVICES < n {
+    if 128 < n {
         return Refusal {
             number: 2,
             place: 0,
         };
     }
-    if LINES < m {
+    if 1024 < m {
         return Refusal {
             number: 4,
             place: 0,
@@ -135,9 +133,9 @@ pub fn read_plant(
     }
     let at = f.at;
     let m = f.lines;
-    let mut a = [0usize; LINES];
-    let mut b = [0usize; LINES];
-    let mut s = [0usize; LINES];
+    let mut a = [0usize; 1024];
+    let mut b = [0usize; 1024];
+    let mut s = [0usize; 1024];
     reader::rows_of(text, at, m, &mut a, &mut b, &mut s);
     let r = check::check_plant(f.devices, &a[..m], &b[..m], &s[..m]);
     if r.number != 0 {
