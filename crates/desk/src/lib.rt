@@ -3,6 +3,8 @@
 use cut::rate::Rate;
 use grouping::grouping::Grouping;
 use grouping::grouping::groups_at;
+use rules::DEVICES;
+use rules::LINES;
 use text::read::read_plant;
 ghost use mathlib.Core.Path.{_≡_};
 ghost use Prim.Native.Nat.{ℕ, _≤_, _<_};
@@ -12,7 +14,7 @@ ghost use Rattle.rules.specs.Lists.{over};
 ghost use Rattle.desk.specs.Calls.{deskAnswer, deskLabels, DeskIs};
 
 // Fills the label of each device, as a byte.
-fn put_labels(n: usize, found: &[usize; 128], labels: &mut [u8])
+fn put_labels(n: usize, found: &[usize; DEVICES], labels: &mut [u8])
     requires { ⌜ (n ≤ 128) × (n ≤ length (now labels)) × ((v : ℕ) → v < n → getD (now found) v 0 < n) ⌝ }
     ensures { λ _. ⌜ now (labels .exit) ≡ over (table n (λ v. getD (now (found .entry)) v 0)) (now (labels .entry)) ⌝ }
 {
@@ -28,9 +30,9 @@ fn grouped(text: &[u8], p: usize, q: usize, labels: &mut [u8]) -> Grouping
     ensures { λ r. ⌜ r ≡ deskAnswer (now (text .entry)) p q (length (now (labels .entry))) ⌝ }
     ensures { λ _. ⌜ now (labels .exit) ≡ deskLabels (now (text .entry)) p q (now (labels .entry)) ⌝ }
 {
-    let mut firsts = [0usize; 1024];
-    let mut seconds = [0usize; 1024];
-    let mut signals = [0usize; 1024];
+    let mut firsts = [0usize; LINES];
+    let mut seconds = [0usize; LINES];
+    let mut signals = [0usize; LINES];
     let plant = read_plant(text, &mut firsts, &mut seconds, &mut signals);
     if plant.number != 0 {
         return Grouping {
@@ -41,7 +43,7 @@ fn grouped(text: &[u8], p: usize, q: usize, labels: &mut [u8]) -> Grouping
     }
     let n = plant.devices;
     let m = plant.lines;
-    let mut found = [0usize; 128];
+    let mut found = [0usize; DEVICES];
     let r = groups_at(
         n,
         &firsts[..m],

@@ -4,6 +4,8 @@ use crate::Form;
 use crate::Reading;
 use crate::reader;
 use cut::check;
+use rules::DEVICES;
+use rules::LINES;
 use rules::Refusal;
 ghost use mathlib.Core.Path.{_≡_};
 ghost use Prim.Native.Nat.{_≤_};
@@ -48,13 +50,13 @@ fn size_fault(n: usize, m: usize) -> Refusal
             place: 0,
         };
     }
-    if 128 < n {
+    if DEVICES < n {
         return Refusal {
             number: 2,
             place: 0,
         };
     }
-    if 1024 < m {
+    if LINES < m {
         return Refusal {
             number: 4,
             place: 0,
@@ -133,9 +135,9 @@ pub fn read_plant(
     }
     let at = f.at;
     let m = f.lines;
-    let mut a = [0usize; 1024];
-    let mut b = [0usize; 1024];
-    let mut s = [0usize; 1024];
+    let mut a = [0usize; LINES];
+    let mut b = [0usize; LINES];
+    let mut s = [0usize; LINES];
     reader::rows_of(text, at, m, &mut a, &mut b, &mut s);
     let r = check::check_plant(f.devices, &a[..m], &b[..m], &s[..m]);
     if r.number != 0 {

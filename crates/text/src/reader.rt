@@ -2,6 +2,7 @@
 // text and the number; `form_of` and `rows_of`, whose parameters are plain, make it.
 use crate::Form;
 use crate::whole;
+use rules::LINES;
 ghost use mathlib.Core.Path.{_≡_};
 ghost use Prim.Native.Nat.{_+_, _≤_};
 ghost use lib.ListN.{length, drop};
@@ -43,9 +44,9 @@ fn form_here<'a>(r: Reader<'a>) -> Form
 fn rows_here<'t, 'a, 'b, 's>(
     r: Reader<'t>,
     m: usize,
-    a: &'a mut [usize; 1024],
-    b: &'b mut [usize; 1024],
-    s: &'s mut [usize; 1024],
+    a: &'a mut [usize; LINES],
+    b: &'b mut [usize; LINES],
+    s: &'s mut [usize; LINES],
 )
     requires { ⌜
         (r .at ≤ length (now (r .text))) × (m ≤ 1024)
@@ -69,9 +70,9 @@ pub(crate) fn rows_of(
     text: &[u8],
     used: usize,
     m: usize,
-    a: &mut [usize; 1024],
-    b: &mut [usize; 1024],
-    s: &mut [usize; 1024],
+    a: &mut [usize; LINES],
+    b: &mut [usize; LINES],
+    s: &mut [usize; LINES],
 )
     requires { ⌜
         (used ≤ length (now text)) × (m ≤ 1024)

@@ -5,6 +5,8 @@ use crate::listing::put_refusal;
 use crate::read::read_plant;
 use crate::write::put;
 use grouping::hierarchy::hierarchy;
+use rules::DEVICES;
+use rules::LINES;
 ghost use mathlib.Core.Path.{_≡_};
 ghost use Prim.Native.Nat.{_≤_};
 ghost use lib.ListN.{length};
@@ -24,9 +26,10 @@ fn show_plant(
     requires { ⌜ 262144 ≤ length (now space) ⌝ }
     ensures { λ r. ⌜ ShownPlant (plantOf n (now (firsts .entry)) (now (seconds .entry)) (now (signals .entry))) (now (space .entry)) r (now (space .exit)) ⌝ }
 {
+    // n × n labels of at most 128 devices
     let mut labels = [0usize; 16384];
-    let mut low_p = [0usize; 128];
-    let mut low_q = [0usize; 128];
+    let mut low_p = [0usize; DEVICES];
+    let mut low_q = [0usize; DEVICES];
     let h = hierarchy(
         n,
         firsts,
@@ -44,9 +47,9 @@ fn show_text(text: &[u8], space: &mut [u8]) -> usize
     requires { ⌜ 262144 ≤ length (now space) ⌝ }
     ensures { λ r. ⌜ ShownText (now (text .entry)) (now (space .entry)) r (now (space .exit)) ⌝ }
 {
-    let mut firsts = [0usize; 1024];
-    let mut seconds = [0usize; 1024];
-    let mut signals = [0usize; 1024];
+    let mut firsts = [0usize; LINES];
+    let mut seconds = [0usize; LINES];
+    let mut signals = [0usize; LINES];
     let r = read_plant(text, &mut firsts, &mut seconds, &mut signals);
     if r.number != 0 {
         return put_refusal(space, 0, r.number, r.place);

@@ -2,6 +2,7 @@
 use crate::Form;
 use crate::Passed;
 use crate::lines;
+use rules::LINES;
 ghost use mathlib.Core.Path.{_≡_};
 ghost use Prim.Native.Nat.{_≤_, _<_};
 ghost use lib.ListN.{length, drop};
@@ -96,9 +97,9 @@ pub(crate) fn keep_rows(
     text: &[u8],
     at: usize,
     m: usize,
-    a: &mut [usize; 1024],
-    b: &mut [usize; 1024],
-    s: &mut [usize; 1024],
+    a: &mut [usize; LINES],
+    b: &mut [usize; LINES],
+    s: &mut [usize; LINES],
 )
     requires { ⌜
         (at ≤ length (now text)) × (m ≤ 1024)
