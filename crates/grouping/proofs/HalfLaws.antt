@@ -12,7 +12,7 @@ use native.Mathlib.Nat.{le-of-lt, eq-or-lt-of-le}
 use native.Mathlib.Omega.{arith}
 use Rattle.rules.specs.Plant.{Plant}
 use Rattle.rules.specs.Accepted.{Sound}
-use Rattle.rules.specs.Groups.{groupOf, groups}
+use Rattle.rules.specs.Groups.{groupOf, groups, distinct}
 use Rattle.rules.specs.Rates.{Below}
 use Rattle.rules.specs.Stretch.{Crossing}
 use Rattle.rules.proofs.RangeLaws.{InRange, range-in}
@@ -63,22 +63,21 @@ module _ {g : Plant} {ap aq bp bq : ℕ} {finer owner : List ℕ} {fine : ℕ} {
   parts : groups g p q ≡ groups g bp bq → ⊥
   parts = crossing-parts g ap aq bp bq s (span .apart .some-ap) (span .apart .some-bp) (span .apart .some-bq) between-rates p q (range .q-least) crosses
 
-  module _ {middle : Level} (level : IsLevel g p q middle) where
+  -- the grouping at p/q has as many groups as the finer one
+  module _ (e : fine ≡ distinct (groups g p q)) where
     -- as many groups, the same groups
-    finer-same : middle .groups ≡ fine → groups g p q ≡ groups g ap aq
-    finer-same e =
-        same-number g ap aq p q s (span .apart .some-ap) (range .p-least) (range .q-least) (half-rate .3)
-        (sym (level .counted) ∙ e ∙ span .finer-count)
+    finer-same : groups g p q ≡ groups g ap aq
+    finer-same = same-number g ap aq p q s (span .apart .some-ap) (range .p-least) (range .q-least) (half-rate .3) (sym e ∙ span .finer-count)
 
     -- "at that rate itself and at all higher rates": down to p/q the grouping is the finer one, and under it the coarser one
-    pub half-last : middle .groups ≡ fine
-        → ((r t : ℕ) → 1 ≤ r → 1 ≤ t → r * aq ≤ ap * t → p * t ≤ r * q → groups g r t ≡ groups g ap aq)
+    pub half-last : ((r t : ℕ) → 1 ≤ r → 1 ≤ t → r * aq ≤ ap * t → p * t ≤ r * q → groups g r t ≡ groups g ap aq)
         × ((r t : ℕ) → 1 ≤ r → 1 ≤ t → bp * t ≤ r * bq → Below r t p q → groups g r t ≡ groups g bp bq)
-    half-last e = (
-      λ r t o u h l. squeeze g ap aq r t p q s (span .apart .some-ap) o u (range .p-least) (range .q-least) h l (sym (finer-same e)),
-      crossing-last g ap aq bp bq s (span .apart .some-ap) (span .apart .some-bp) (span .apart .some-bq) between-rates p q (range .q-least) crosses (finer-same e),
+    half-last = (
+      λ r t o u h l. squeeze g ap aq r t p q s (span .apart .some-ap) o u (range .p-least) (range .q-least) h l (sym finer-same),
+      crossing-last g ap aq bp bq s (span .apart .some-ap) (span .apart .some-bp) (span .apart .some-bq) between-rates p q (range .q-least) crosses finer-same,
     )
 
+  module _ {middle : Level} (level : IsLevel g p q middle) where
     -- the lower half
     pub half-coarser : Span g p q bp bq (middle .labels) (middle .owner) (middle .groups) coarser coarse
     half-coarser = record {
@@ -97,7 +96,7 @@ module _ {g : Plant} {ap aq bp bq : ℕ} {finer owner : List ℕ} {fine : ℕ} {
       coarser-count = span .coarser-count;
     }
 
-    pub half-more : coarse < middle .groups
+    half-more : coarse < middle .groups
     half-more =
         omega (
           arith,

@@ -28,7 +28,7 @@ use Rattle.rules.proofs.LadderLaws.{hierarchy-of, hierarchy-sole}
 use Rattle.grouping.specs.declared.level.Level.{Level}
 use Rattle.grouping.specs.Calls.{rowOf, hierarchyFault, PastKept, Listed, HierarchyIs}
 use Rattle.grouping.specs.Level.{IsLevel}
-use Rattle.grouping.specs.Stretch.{SomeSpan, Span, Ready, KeptOutside, Searched}
+use Rattle.grouping.specs.Stretch.{SpanFrom, Span, Ready, KeptOutside, Searched}
 use Rattle.grouping.proofs.RowLaws.{kept-join}
 use Rattle.grouping.proofs.SearchLaws.{labels-groups}
 use Rattle.grouping.proofs.EndCalls.{alone, ends-span}
@@ -70,8 +70,8 @@ module _ (n : ℕ) (xs ys zs : List ℕ) (a : Accepted n xs ys zs) where
     ends : (finest .groups ≡ coarsest .groups → ⊥) → Span g 100000000 1 1 1000 (finest .labels) (finest .owner) (finest .groups) (coarsest .labels) (coarsest .groups)
     ends other = ends-span f c (λ e. other (f .counted ∙ ap distinct e ∙ sym (c .counted)))
 
-    pub two-ends : (finest .groups ≡ coarsest .groups → ⊥) → SomeSpan (plantOf n xs ys zs) (finest .labels) (finest .owner) (finest .groups) (coarsest .labels) (coarsest .groups)
-    two-ends other = (100000000, 1, 1, 1000, ends other)
+    pub two-ends : (finest .groups ≡ coarsest .groups → ⊥) → SpanFrom (plantOf n xs ys zs) 100000000 1 (finest .labels) (finest .owner) (finest .groups) (coarsest .labels) (coarsest .groups)
+    two-ends other = (1, 1000, ends other)
 
     -- at every positive rate every device is alone
     same-ends : finest .groups ≡ coarsest .groups → (p q : ℕ) → 1 ≤ p → 1 ≤ q → groups g p q ≡ table n (λ v. v)

@@ -120,7 +120,7 @@ module _ {g : Plant} {i j : ℕ} {finer coarser : Level} (known : Parted g i j f
       turn-last hi hj e =
           let (ap, aq, bp, bq, span) = known .levels .0 in
           let rate = half-rate s span x in
-          let last = half-last s span x level e in
+          let last = half-last s span x (sym e ∙ level .counted) in
           let fine = span .apart .finer-is in
           let coarse = span .apart .coarser-is in
           joins-of g s i j hi hj ap aq bp bq p q

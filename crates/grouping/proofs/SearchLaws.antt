@@ -1,24 +1,31 @@
 -- The recursive search between two known levels, on plain lists: where the stretch ends at its crossing rate one low rate and one row are filled in; and what two halves have filled in is what the whole has.
 --     search-last     the stretch is not split: one low rate and the coarser level's row
+--     search-known    the same where the crossing rate is the finer level's own
 --     search-ready    between the two halves
 --     search-join     the two halves in turn
 --     search-halves   the same at the crossing rate
 --     some-..         what two known levels are enough for
+--     from-..         the same where the finer one's rate is given
 --     labels-groups   a list of labels as the groups at its rate
+--     same-numbers    the test of two rates, number by number
 -- Assumes nothing.
 use Prim.Native.Nat.{ℕ, suc, _+_, _*_, _≤_, _<_}
 use mathlib.Core.Path.{_≡_, sym, ap, subst, _∙_}
+use mathlib.Core.Bool.{Bool, true, _&&_}
 use mathlib.Core.List.{List}
 use mathlib.Core.Logic.{⊎-elim}
 use native.Mathlib.Nat.{mul-le-mul-right, suc-mul, le-refl, le-of-lt, le-antisymm, le-of-suc-le-suc}
 use native.Mathlib.Omega.{arith}
-use lib.ListN.{getD, set}
+use lib.Dec.{eqb}
+use lib.ListN.{length, getD, set}
 use lib.Seq.{getD-set-same}
+use borrow.Author.Tests.{eqb-true}
 use Rattle.rules.specs.Plant.{Plant}
 use Rattle.rules.specs.Accepted.{Sound}
-use Rattle.rules.specs.Groups.{table, label, groups}
+use Rattle.rules.specs.Groups.{table, label, groups, distinct}
 use Rattle.rules.specs.Rates.{Below}
 use Rattle.rules.specs.Stretch.{Ladder}
+use Rattle.rules.proofs.SetLaws.{and-left, and-right}
 use Rattle.rules.proofs.OrderLaws.{le-or-below}
 use Rattle.rules.proofs.LabelLaws.{table-agree}
 use Rattle.rules.proofs.LevelLaws.{fewer, some-group}
@@ -26,9 +33,15 @@ use Rattle.rules.proofs.LadderLaws.{ladder-join, ladder-step, ladder-same}
 use Rattle.grouping.specs.Calls.{rowOf}
 use Rattle.grouping.specs.declared.level.Level.{Level}
 use Rattle.grouping.specs.Level.{Labelled, IsLevel, Between}
-use Rattle.grouping.specs.Stretch.{Apart, CrossingRate, Span, SomeSpan, Ready, KeptOutside, Searched}
+use Rattle.grouping.specs.Stretch.{Apart, CrossingRate, Span, SpanFrom, SomeSpan, Ready, KeptOutside, Settled, Searched}
 use Rattle.grouping.proofs.RowLaws.{kept-join, kept-set, row-kept}
-use Rattle.grouping.proofs.HalfLaws.{half-rate, half-between, half-last, half-more, half-finer, half-coarser, half-fewer}
+use Rattle.grouping.proofs.HalfLaws.{half-rate, half-between, half-last, half-finer, half-coarser, half-fewer}
+
+-- the test of two rates, number by number
+pub same-numbers : {r : Bool} {p q p′ q′ : ℕ} → r ≡ (eqb p p′ && eqb q q′) → r ≡ true → (p ≡ p′) × (q ≡ q′)
+same-numbers {r} {p} {q} {p′} {q′} e t =
+    let both : (eqb p p′ && eqb q q′) ≡ true = sym e ∙ t in
+    (eqb-true p p′ (and-left (eqb p p′) (eqb q q′) both), eqb-true q q′ (and-right (eqb p p′) (eqb q q′) both))
 
 module _ (g : Plant) where
   abbrev n : ℕ
@@ -84,37 +97,46 @@ module _ (g : Plant) where
   unfolding groups
   labels-groups p q labels is = table-agree n (λ v. getD labels v 0) (label g p q) is
 
-  -- the stretch is not split
+  -- the coarser of two known levels has fewer groups
+  some-less : {finer owner coarser : List ℕ} {fine coarse : ℕ} → Sound g → SomeSpan g finer owner fine coarser coarse → coarse < fine
+  some-less s (ap, aq, bp, bq, span) =
+      omega (
+        arith,
+        span .finer-count,
+        span .coarser-count,
+        fewer g ap aq bp bq s (span .apart .some-ap) (span .apart .some-bp) (span .apart .some-bq) (le-of-lt (span .apart .lower)) (span .apart .differ),
+      )
+
+  -- the stretch is not split: the grouping at its crossing rate has as many groups as the finer one
   pub search-last :
-      {finer owner coarser : List ℕ} {fine coarse at p q : ℕ} {middle : Level} {labels lowP lowQ labels′ : List ℕ} →
+      {finer owner coarser : List ℕ} {fine coarse at to p q : ℕ} {labels lowP lowQ labels′ lowP′ lowQ′ : List ℕ} →
       Sound g →
       SomeSpan g finer owner fine coarser coarse →
       CrossingRate g finer coarser p q →
-      IsLevel g p q middle →
-      middle .groups ≡ fine →
+      fine ≡ distinct (groups g p q) →
       Ready (g .devices) finer fine at labels lowP lowQ →
-      KeptOutside (suc at * g .devices) (suc at * g .devices + g .devices) labels labels′ →
-      rowOf (g .devices) labels′ (suc at) ≡ table (g .devices) (λ v. getD coarser v 0) →
-      Searched (g .devices) g finer owner fine coarser coarse at (suc at) labels lowP lowQ labels′ (set lowP at p) (set lowQ at q)
-  search-last {finer} {owner} {coarser} {fine} {coarse} {at} {p} {q} {middle} {labels} {lowP} {lowQ} {labels′} s some x level e ready kept row = record {
-    onward = le-refl (suc at);
-    within = omega (arith, fewer, ready .within);
-    labels-kept = subst (λ (t : ℕ). KeptOutside (suc at * n) t labels labels′) (sym (suc-mul (suc at) n)) kept;
-    low-p-kept = kept-set at p lowP;
-    low-q-kept = kept-set at q lowQ;
-    row = row;
-    most = λ i l h. subst (λ (j : ℕ). getD (set lowP at p) j 0 ≤ 67107840) (le-antisymm l (le-of-suc-le-suc h)) (rw here-p (x .most));
-    ladder = ladder;
-  }
+      Settled (g .devices) coarser at to p q labels lowP lowQ labels′ lowP′ lowQ′ →
+      Searched (g .devices) g finer owner fine coarser coarse at to labels lowP lowQ labels′ lowP′ lowQ′
+  search-last {finer} {owner} {coarser} {fine} {coarse} {at} {to} {p} {q} {labels} {lowP} {lowQ} {labels′} {lowP′} {lowQ′} s some x e ready put =
+      rw (put .next, put .low-p, put .low-q) (record {
+        onward = le-refl (suc at);
+        within = omega (arith, less, ready .within);
+        labels-kept = subst (λ (t : ℕ). KeptOutside (suc at * n) t labels labels′) (sym (suc-mul (suc at) n)) (put .labels-kept);
+        low-p-kept = kept-set at p lowP;
+        low-q-kept = kept-set at q lowQ;
+        row = put .row;
+        most = λ i l h. subst (λ (j : ℕ). getD (set lowP at p) j 0 ≤ 67107840) (le-antisymm l (le-of-suc-le-suc h)) (rw here-p (x .most));
+        ladder = ladder;
+      })
     where
-      fewer : coarse < fine
-      fewer = let (ap, aq, bp, bq, span) = some in omega (arith, half-more s span x level, e)
+      less : coarse < fine
+      less = some-less s some
 
       here-p : getD (set lowP at p) at 0 ≡ p
-      here-p = getD-set-same lowP at p 0 (omega (arith, ready .low-p-room, ready .within, fewer))
+      here-p = getD-set-same lowP at p 0 (omega (arith, ready .low-p-room, ready .within, less))
 
       here-q : getD (set lowQ at q) at 0 ≡ q
-      here-q = getD-set-same lowQ at q 0 (omega (arith, ready .low-q-room, ready .within, fewer))
+      here-q = getD-set-same lowQ at q 0 (omega (arith, ready .low-q-room, ready .within, less))
 
       ladder : (ap aq bp bq : ℕ) → Span g ap aq bp bq finer owner fine coarser coarse
           → Ladder g ap aq bp bq at (suc at) (rowOf n labels′) (λ i. getD (set lowP at p) i 0) (λ i. getD (set lowQ at q) i 0)
@@ -127,27 +149,49 @@ module _ (g : Plant) where
           (rw here-q (x .few))
           first second
           (λ c. span .apart .differ (sym first ∙ c ∙ second))
-          (rw (here-p, here-q) (half-last s span x level e .0))
-          (rw (here-p, here-q) (half-last s span x level e .1))
+          (rw (here-p, here-q) (half-last s span x e .0))
+          (rw (here-p, here-q) (half-last s span x e .1))
         where
           rate : (1 ≤ p) × (1 ≤ q) × Below bp bq p q × (p * aq ≤ ap * q)
           rate = half-rate s span x
 
           first : rowOf n labels′ at ≡ groups g ap aq
-          first = row-before at kept (le-refl _) ∙ ready .row ∙ labels-groups ap aq finer (span .apart .finer-is)
+          first = row-before at (put .labels-kept) (le-refl _) ∙ ready .row ∙ labels-groups ap aq finer (span .apart .finer-is)
 
           second : rowOf n labels′ (suc at) ≡ groups g bp bq
-          second = row ∙ labels-groups bp bq coarser (span .apart .coarser-is)
+          second = put .row ∙ labels-groups bp bq coarser (span .apart .coarser-is)
 
   -- the finer of two levels that differ has at least two groups
-  pub some-two : {finer owner coarser : List ℕ} {fine coarse : ℕ} → Sound g → 1 ≤ g .devices → SomeSpan g finer owner fine coarser coarse → 2 ≤ fine
+  some-two : {finer owner coarser : List ℕ} {fine coarse : ℕ} → Sound g → 1 ≤ g .devices → SomeSpan g finer owner fine coarser coarse → 2 ≤ fine
   some-two s o (ap, aq, bp, bq, span) =
-      omega (
-        arith,
-        span .finer-count,
-        some-group g bp bq s (span .apart .some-bp) o,
-        fewer g ap aq bp bq s (span .apart .some-ap) (span .apart .some-bp) (span .apart .some-bq) (le-of-lt (span .apart .lower)) (span .apart .differ),
-      )
+      omega (arith, span .coarser-count, some-group g bp bq s (span .apart .some-bp) o, some-less s (ap, aq, bp, bq, span))
+
+  -- so there is a row after `at`, and room for it
+  pub some-room :
+      {finer owner coarser : List ℕ} {fine coarse at : ℕ} {labels lowP lowQ : List ℕ} →
+      Sound g →
+      1 ≤ g .devices →
+      g .devices ≤ 128 →
+      SomeSpan g finer owner fine coarser coarse →
+      Ready (g .devices) finer fine at labels lowP lowQ →
+      ((g .devices ≤ 128) × (at + 1 < g .devices)) × ((g .devices * g .devices ≤ length labels) × (g .devices ≤ length lowP) × (g .devices ≤ length lowQ))
+  some-room s o m some ready = ((m, omega (arith, some-two s o some, ready .within)), (ready .labels-room, ready .low-p-room, ready .low-q-room))
+
+  -- the finer one's rate is given
+  pub from-some : {ap aq : ℕ} {finer owner coarser : List ℕ} {fine coarse : ℕ} → SpanFrom g ap aq finer owner fine coarser coarse → SomeSpan g finer owner fine coarser coarse
+  from-some {ap} {aq} (bp, bq, span) = (ap, aq, bp, bq, span)
+
+  -- and the crossing rate is the same: there the grouping is the finer one
+  pub search-known :
+      {finer owner coarser : List ℕ} {fine coarse at to ap aq p q : ℕ} {labels lowP lowQ labels′ lowP′ lowQ′ : List ℕ} →
+      Sound g →
+      SpanFrom g ap aq finer owner fine coarser coarse →
+      CrossingRate g finer coarser p q →
+      (p ≡ ap) × (q ≡ aq) →
+      Ready (g .devices) finer fine at labels lowP lowQ →
+      Settled (g .devices) coarser at to ap aq labels lowP lowQ labels′ lowP′ lowQ′ →
+      Searched (g .devices) g finer owner fine coarser coarse at to labels lowP lowQ labels′ lowP′ lowQ′
+  search-known s from x (ep, eq) ready put = search-last s (from-some from) (rw (ep, eq) at x) (from .2 .finer-count) ready put
 
   -- what the crossing rate asks of two known levels, and what the level there asks
   pub some-apart : {finer owner coarser : List ℕ} {fine coarse : ℕ} → SomeSpan g finer owner fine coarser coarse
@@ -167,6 +211,12 @@ module _ (g : Plant) where
 
     pub some-coarser : SomeSpan g finer owner fine coarser coarse → SomeSpan g (middle .labels) (middle .owner) (middle .groups) coarser coarse
     some-coarser (ap, aq, bp, bq, span) = (p, q, bp, bq, half-coarser s span x level)
+
+    pub from-finer : {ap aq : ℕ} → SpanFrom g ap aq finer owner fine coarser coarse → SpanFrom g ap aq finer owner fine (middle .labels) (middle .groups)
+    from-finer (bp, bq, span) = (p, q, half-finer s span x level other)
+
+    pub from-coarser : SomeSpan g finer owner fine coarser coarse → SpanFrom g p q (middle .labels) (middle .owner) (middle .groups) coarser coarse
+    from-coarser (ap, aq, bp, bq, span) = (bp, bq, half-coarser s span x level)
 
     pub some-fewer : SomeSpan g finer owner fine coarser coarse → (coarse < middle .groups) × (middle .groups < fine)
     some-fewer (ap, aq, bp, bq, span) = half-fewer s span x level other

@@ -6,7 +6,7 @@ use mathlib.Core.Bool.{true}
 use mathlib.Core.List.{List}
 use mathlib.Core.Logic.{_⊎_}
 use lib.Dec.{eqb}
-use lib.ListN.{length, getD}
+use lib.ListN.{length, getD, set}
 use Rattle.rules.specs.Plant.{Plant}
 use Rattle.rules.specs.Cut.{Devices, size, out}
 use Rattle.rules.specs.Groups.{table, groups, distinct}
@@ -86,6 +86,10 @@ pub record Span (g : Plant) (ap aq bp bq : ℕ) (finer owner : List ℕ) (fine :
   pub finer-count : fine ≡ distinct (groups g ap aq)
   pub coarser-count : coarse ≡ distinct (groups g bp bq)
 
+-- two known levels, the finer at the rate ap/aq and the coarser at some rate
+abbrev pub SpanFrom : Plant → ℕ → ℕ → List ℕ → List ℕ → ℕ → List ℕ → ℕ → Type 0
+SpanFrom g ap aq finer owner fine coarser coarse = (bp : ℕ) × (bq : ℕ) × Span g ap aq bp bq finer owner fine coarser coarse
+
 -- two known levels, at some rates
 abbrev pub SomeSpan : Plant → List ℕ → List ℕ → ℕ → List ℕ → ℕ → Type 0
 SomeSpan g finer owner fine coarser coarse = (ap : ℕ) × (aq : ℕ) × (bp : ℕ) × (bq : ℕ) × Span g ap aq bp bq finer owner fine coarser coarse
@@ -108,6 +112,14 @@ pub record KeptOutside (from to : ℕ) (old new : List ℕ) : Type 0 where
   pub length-same : length new ≡ length old
   pub before : (j : ℕ) → j < from → getD new j 0 ≡ getD old j 0
   pub past : (j : ℕ) → to ≤ j → getD new j 0 ≡ getD old j 0
+
+-- what is filled where nothing lies between the level of row `at` and the coarser one: the low rate p/q of row `at`, and the row `to` after it with the coarser level
+pub record Settled (n : ℕ) (coarser : List ℕ) (at to p q : ℕ) (labels lowP lowQ labels′ lowP′ lowQ′ : List ℕ) : Type 0 where
+  pub next : to ≡ suc at
+  pub labels-kept : KeptOutside (suc at * n) (suc at * n + n) labels labels′
+  pub row : rowOf n labels′ (suc at) ≡ table n (λ v. getD coarser v 0)
+  pub low-p : lowP′ ≡ set lowP at p
+  pub low-q : lowQ′ ≡ set lowQ at q
 
 -- what the search has filled: the rows after `at` up to `to`, which holds the coarser level, and the low rates of the levels from `at` to the one before `to`; whatever the rates of the two known levels are
 pub record Searched (n : ℕ) (g : Plant) (finer owner : List ℕ) (fine : ℕ) (coarser : List ℕ) (coarse at to : ℕ) (labels lowP lowQ labels′ lowP′ lowQ′ : List ℕ) : Type 0 where

@@ -6,15 +6,15 @@ use cut::check::check_plant;
 use cut::rate::Rate;
 use rules::DEVICES;
 ghost use mathlib.Core.Path.{_≡_};
-ghost use mathlib.Core.Bool.{_||_};
+ghost use mathlib.Core.Bool.{_&&_, _||_};
 ghost use Prim.Native.Nat.{_+_, _*_, _≤_, _<_};
-ghost use lib.Dec.{ltb};
+ghost use lib.Dec.{ltb, eqb};
 ghost use lib.ListN.{length, getD};
 ghost use Rattle.rules.specs.Plant.{plantOf};
 ghost use Rattle.rules.specs.Groups.{table};
 ghost use Rattle.rules.specs.Accepted.{Accepted};
 ghost use Rattle.grouping.specs.Calls.{rowOf, HierarchyIs, Listed};
-ghost use Rattle.grouping.specs.Stretch.{SomeSpan, Ready, KeptOutside, Searched};
+ghost use Rattle.grouping.specs.Stretch.{SpanFrom, Ready, KeptOutside, Settled, Searched};
 
 // Number and place, and of an accepted call the number of levels.
 pub struct Levels {
@@ -37,9 +37,40 @@ fn put_row(n: usize, level: &[usize; DEVICES], k: usize, labels: &mut [usize])
     }
 }
 
-// The levels between two known ones. The finer stands in row `at`; the coarser comes to stand in the row that is answered, and the low
-// rate of each level from `at` to the one before it is filled in. The stretch is split at the crossing rate, and each half treated
-// likewise, until the grouping there is the finer one itself.
+// Nothing lies between the level of row `at` and the coarser one: the given rate is the low rate of the level of row `at`, and the
+// coarser one's row, which is answered, is the next.
+fn settle(
+    n: usize,
+    coarser: &[usize; DEVICES],
+    at: usize,
+    rate: Rate,
+    labels: &mut [usize],
+    low_p: &mut [usize],
+    low_q: &mut [usize],
+) -> usize
+    requires { ⌜ (n ≤ 128) × (at + 1 < n) ⌝ }
+    requires { ⌜ (n * n ≤ length (now labels)) × (n ≤ length (now «low_p»)) × (n ≤ length (now «low_q»)) ⌝ }
+    ensures { λ r. ⌜ Settled n (now (coarser .entry)) at r (rate .p) (rate .q) (now (labels .entry)) (now («low_p» .entry)) (now («low_q» .entry)) (now (labels .exit)) (now («low_p» .exit)) (now («low_q» .exit)) ⌝ }
+{
+    low_p[at] = rate.p;
+    low_q[at] = rate.q;
+    put_row(n, coarser, at + 1, labels);
+    at + 1
+}
+
+// Whether two rates have the same two numbers.
+fn same(a: Rate, b: Rate) -> bool
+    ensures { λ r. ⌜ r ≡ (eqb (a .p) (b .p) && eqb (a .q) (b .q)) ⌝ }
+{
+    if a.p != b.p {
+        return false;
+    }
+    a.q == b.q
+}
+
+// The levels between two known ones. The finer, whose rate is `high`, stands in row `at`; the coarser comes to stand in the row that is
+// answered, and the low rate of each level from `at` to the one before it is filled in. The stretch is split at the crossing rate, and
+// each half treated likewise, until the grouping there is the finer one itself: at the finer one's own rate that is known.
 fn search<'a>(
     n: usize,
     firsts: &[usize],
@@ -48,6 +79,7 @@ fn search<'a>(
     finer: &'a [usize; DEVICES],
     owner: &'a [usize; DEVICES],
     finer_groups: usize,
+    high: Rate,
     coarser: &'a [usize; DEVICES],
     coarser_groups: usize,
     at: usize,
@@ -56,18 +88,18 @@ fn search<'a>(
     low_q: &mut [usize],
 ) -> usize
     requires { ⌜ Accepted n (now firsts) (now seconds) (now signals) × (length (now coarser) ≡ 128) ⌝ }
-    requires { ⌜ SomeSpan (plantOf n (now firsts) (now seconds) (now signals)) (now finer) (now owner) «finer_groups» (now coarser) «coarser_groups» ⌝ }
+    requires { ⌜ SpanFrom (plantOf n (now firsts) (now seconds) (now signals)) (high .p) (high .q) (now finer) (now owner) «finer_groups» (now coarser) «coarser_groups» ⌝ }
     requires { ⌜ Ready n (now finer) «finer_groups» at (now labels) (now «low_p») (now «low_q») ⌝ }
     ensures { λ r. ⌜ Searched n (plantOf n (now (firsts .entry)) (now (seconds .entry)) (now (signals .entry))) (now (finer .entry)) (now (owner .entry)) «finer_groups» (now (coarser .entry)) «coarser_groups» at r (now (labels .entry)) (now («low_p» .entry)) (now («low_q» .entry)) (now (labels .exit)) (now («low_p» .exit)) (now («low_q» .exit)) ⌝ }
 {
     let rate = crossing(n, firsts, seconds, signals, finer, coarser);
+    if same(rate, high) {
+        return settle(n, coarser, at, high, labels, low_p, low_q);
+    }
     let middle = level_between(n, firsts, seconds, signals, rate, owner, coarser);
     let groups = middle.groups;
     if groups == finer_groups {
-        low_p[at] = rate.p;
-        low_q[at] = rate.q;
-        put_row(n, coarser, at + 1, labels);
-        return at + 1;
+        return settle(n, coarser, at, rate, labels, low_p, low_q);
     }
     let next = search(
         n,
@@ -77,6 +109,7 @@ fn search<'a>(
         finer,
         owner,
         finer_groups,
+        high,
         &middle.labels,
         groups,
         at,
@@ -92,6 +125,7 @@ fn search<'a>(
         &middle.labels,
         &middle.owner,
         groups,
+        rate,
         coarser,
         coarser_groups,
         next,
@@ -131,6 +165,7 @@ fn fill_hierarchy(
         &finest.labels,
         &finest.owner,
         fine,
+        Rate::LARGEST,
         &coarsest.labels,
         coarse,
         0,
