@@ -70,38 +70,19 @@ pub fn made(list: &[usize; 64], expected: &[u8]) -> Line {
     print::marks(line, expected, b" marks=", &marks)
 }
 
-// 1 for a device that is wanted.
-fn flag(x: usize) -> u8 {
-    if x == 0 { 0 } else { 1 }
-}
-
-// The rate, four numbers for the fences, four for the wanted devices, and a plant that is written out. The owners are 7 before.
+// The rate, and a plant that is written out. The owners are 7 before.
 pub fn owned(list: &[usize; 64], count: usize, expected: &[u8]) -> Line {
     let mut firsts = [0; 16];
     let mut seconds = [0; 16];
     let mut signals = [0; 16];
-    let fence = [
-        row::entry(list, 2),
-        row::entry(list, 3),
-        row::entry(list, 4),
-        row::entry(list, 5),
-    ];
-    let wanted = [
-        flag(row::entry(list, 6)),
-        flag(row::entry(list, 7)),
-        flag(row::entry(list, 8)),
-        flag(row::entry(list, 9)),
-    ];
     let mut owner = [7; 4];
-    let g = row::plant(list, count, 10, &mut firsts, &mut seconds, &mut signals);
+    let g = row::plant(list, count, 2, &mut firsts, &mut seconds, &mut signals);
     let r = owners(
         g.n,
         row::part(&firsts, g.lines),
         row::part(&seconds, g.lines),
         row::part(&signals, g.lines),
         rates::rate_at(list, 0),
-        &fence,
-        &wanted,
         &mut owner,
     );
     let line = print::refusal(expected, r.number, r.place);

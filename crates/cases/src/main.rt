@@ -4,6 +4,7 @@ mod checks;
 mod communities;
 mod groups;
 mod levels;
+mod networks;
 mod plants;
 mod print;
 mod rates;
@@ -78,6 +79,9 @@ fn community_answer(case: &[u8], list: &[usize; 64], count: usize, expected: &[u
     }
     if row::starts(case, b"owners") {
         return communities::owned(list, count, expected);
+    }
+    if row::starts(case, b"network") {
+        return networks::owned(list, count, expected);
     }
     group_answer(case, list, count, expected)
 }

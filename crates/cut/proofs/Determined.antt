@@ -27,9 +27,8 @@ pub community-determined : (n : ℕ) (xs ys zs : List ℕ) (p q d : ℕ) (marks 
     → (r ≡ r′) × (new ≡ new′)
 community-determined n xs ys zs p q d marks r r′ new new′ a a′ m m′ = (both a a′, both m m′)
 
-pub owners-determined : (n : ℕ) (xs ys zs : List ℕ) (p q : ℕ) (fence wanted owner : List ℕ) (r r′ : Refusal) (new new′ : List ℕ)
-    → r ≡ ownersFault n xs ys zs p q (length fence) (length wanted) (length owner)
-    → r′ ≡ ownersFault n xs ys zs p q (length fence) (length wanted) (length owner)
-    → new ≡ ownersAfter n xs ys zs p q fence wanted owner → new′ ≡ ownersAfter n xs ys zs p q fence wanted owner
+pub owners-determined : (n : ℕ) (xs ys zs : List ℕ) (p q : ℕ) (owner : List ℕ) (r r′ : Refusal) (new new′ : List ℕ)
+    → r ≡ ownersFault n xs ys zs p q (length owner) → r′ ≡ ownersFault n xs ys zs p q (length owner)
+    → new ≡ ownersAfter n xs ys zs p q owner → new′ ≡ ownersAfter n xs ys zs p q owner
     → (r ≡ r′) × (new ≡ new′)
-owners-determined n xs ys zs p q fence wanted owner r r′ new new′ a a′ m m′ = (both a a′, both m m′)
+owners-determined n xs ys zs p q owner r r′ new new′ a a′ m m′ = (both a a′, both m m′)

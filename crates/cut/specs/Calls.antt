@@ -1,17 +1,17 @@
 -- What the public calls answer and what they leave in the lent lists: document 01, "What a call fills" and "Refusal numbers".
 -- Assumes nothing.
 use Prim.Native.Nat.{ℕ}
-use mathlib.Core.Bool.{Bool, not, cond}
-use mathlib.Core.List.{List, [], _∷_}
+use mathlib.Core.Bool.{true, cond}
+use mathlib.Core.List.{List}
 use lib.Dec.{eqb}
-use lib.ListN.{length, getD}
+use lib.ListN.{length}
 use Rattle.rules.specs.declared.Refusal.{Refusal}
 use Rattle.rules.specs.Plant.{Plant, plantOf}
 use Rattle.rules.specs.Cut.{Devices, out, size}
-use Rattle.rules.specs.Community.{community, communityIn}
+use Rattle.rules.specs.Community.{community}
 use Rattle.rules.specs.Groups.{table}
 use Rattle.rules.specs.Sweep.{sweep}
-use Rattle.rules.specs.Refusals.{rateFault, deviceFault, roomFault, firstOf, ofRate, ofDevice, ofRoom, inOrder, about, plantSays}
+use Rattle.rules.specs.Refusals.{rateFault, deviceFault, roomFault, ofRate, ofDevice, ofRoom, inOrder, about, plantSays}
 use Rattle.rules.specs.Lists.{after}
 use Rattle.cut.specs.declared.community.Answer.{Answer}
 
@@ -39,25 +39,14 @@ unfoldable pub communityMarks : ℕ → List ℕ → List ℕ → List ℕ → �
 communityMarks n xs ys zs p q d marks =
     after (communityFault n xs ys zs p q d (length marks)) (marksOf n (community (plantOf n xs ys zs) p q d)) marks
 
--- the fence of device d: the devices with its number in the list
-unfoldable pub fenceOf : List ℕ → ℕ → Devices
-fenceOf fence d v = eqb (getD fence v 0) (getD fence d 0)
+-- the owners call: 1 to 8, then 9, and 12 for a list shorter than n
+unfoldable pub ownersFault : ℕ → List ℕ → List ℕ → List ℕ → ℕ → ℕ → ℕ → Refusal
+ownersFault n xs ys zs p q room = inOrder (about ofRate (rateFault p q) (about ofRoom (roomFault n room) (plantSays n xs ys zs)))
 
--- a device is wanted where its entry is not 0
-unfoldable pub wantedIn : List ℕ → ℕ → Bool
-wantedIn wanted d = not (eqb (getD wanted d 0) 0)
-
--- the owners call, over many devices of one plant and rate: 1 to 8, then 9, and 12 for a list shorter than n
-unfoldable pub ownersFault : ℕ → List ℕ → List ℕ → List ℕ → ℕ → ℕ → ℕ → ℕ → ℕ → Refusal
-ownersFault n xs ys zs p q fences wanteds room =
-    inOrder (about ofRate (rateFault p q) (about ofRoom (firstOf (roomFault n fences ∷ roomFault n wanteds ∷ roomFault n room ∷ [])) (plantSays n xs ys zs)))
-
--- the owner of each device: n is nobody
-unfoldable pub ownersOf : Plant → ℕ → ℕ → List ℕ → List ℕ → List ℕ
-ownersOf g p q fence wanted =
-    table (g .devices) (sweep (λ d. communityIn g p q (fenceOf fence d) d) (wantedIn wanted) (g .devices) (g .devices))
+-- the owner of each device: device by device from the lowest, one that nobody owns yet becomes the owner of its community
+unfoldable pub ownersOf : Plant → ℕ → ℕ → List ℕ
+ownersOf g p q = table (g .devices) (sweep (community g p q) (λ d. true) (g .devices) (g .devices))
 
 -- the lent owners afterwards
-unfoldable pub ownersAfter : ℕ → List ℕ → List ℕ → List ℕ → ℕ → ℕ → List ℕ → List ℕ → List ℕ → List ℕ
-ownersAfter n xs ys zs p q fence wanted owner =
-    after (ownersFault n xs ys zs p q (length fence) (length wanted) (length owner)) (ownersOf (plantOf n xs ys zs) p q fence wanted) owner
+unfoldable pub ownersAfter : ℕ → List ℕ → List ℕ → List ℕ → ℕ → ℕ → List ℕ → List ℕ
+ownersAfter n xs ys zs p q owner = after (ownersFault n xs ys zs p q (length owner)) (ownersOf (plantOf n xs ys zs) p q) owner

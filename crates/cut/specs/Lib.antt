@@ -2,8 +2,6 @@
 --     Calls      what the public calls answer and what they leave in the lent lists
 --     RateCalls  what comparison and reduction of rates answer
 --     RateLoop   what the loop of a reduction finds; no public contract cites it
---     Search     what the functions of the search say to each other; no public contract cites it
 pub mod Calls
 pub mod RateCalls
 pub mod RateLoop
-pub mod Search

@@ -1,10 +1,8 @@
 // The community of a device.
 use crate::check::check_plant;
-use crate::index::index_lines;
-use crate::least::least;
 use crate::rate::Rate;
+use crate::sets::own_communities;
 use rules::DEVICES;
-use rules::LINES;
 ghost use mathlib.Core.Path.{_≡_};
 ghost use mathlib.Core.Bool.{true, cond};
 ghost use lib.Dec.{eqb};
@@ -26,6 +24,30 @@ pub struct Answer {
     pub place: usize,
     pub size: usize,
     pub out: usize,
+}
+
+// The mark of a device with that owner: 1 where it is d.
+fn mark_of(owner: usize, d: usize) -> u8
+    ensures { λ r. ⌜ r ≡ cond (eqb owner d) 1 0 ⌝ }
+{
+    if owner == d {
+        return 1;
+    }
+    0
+}
+
+// Marks 1 those of the first n devices that d owns, and 0 the others.
+fn mark_owned(n: usize, d: usize, owner: &[usize; DEVICES]) -> [u8; DEVICES]
+    requires { ⌜ n ≤ 128 ⌝ }
+    ensures { λ r. ⌜ ((v : ℕ) → v < n → getD r v 0 ≡ cond (eqb (getD (now (owner .entry)) v 0) d) 1 0) ⌝ }
+{
+    let mut mark = [0u8; DEVICES];
+    let mut v = 0;
+    while v < n {
+        mark[v] = mark_of(owner[v], d);
+        v += 1;
+    }
+    mark
 }
 
 // The first n marks are filled in.
@@ -110,32 +132,11 @@ fn fill_community(
     ensures { λ r. ⌜ r ≡ record { number = 0; place = 0; size = size (plantOf n (now (firsts .entry)) (now (seconds .entry)) (now (signals .entry))) (community (plantOf n (now (firsts .entry)) (now (seconds .entry)) (now (signals .entry))) p q device); out = out (plantOf n (now (firsts .entry)) (now (seconds .entry)) (now (signals .entry)) .lines) (community (plantOf n (now (firsts .entry)) (now (seconds .entry)) (now (signals .entry))) p q device) } ⌝ }
     ensures { λ _. ⌜ now (marks .exit) ≡ over (marksOf n (community (plantOf n (now (firsts .entry)) (now (seconds .entry)) (now (signals .entry))) p q device)) (now (marks .entry)) ⌝ }
 {
-    let mut last = [0usize; DEVICES];
-    let mut before_first = [0usize; LINES];
-    let mut before_second = [0usize; LINES];
-    index_lines(
-        firsts,
-        seconds,
-        &mut last,
-        &mut before_first,
-        &mut before_second,
-    );
-    let fence = [0usize; DEVICES];
-    let mut mark = [0u8; DEVICES];
-    least(
-        n,
-        firsts,
-        seconds,
-        signals,
-        p,
-        q,
-        &fence,
-        device,
-        &last,
-        &before_first,
-        &before_second,
-        &mut mark,
-    );
+    let mut wanted = [0u8; DEVICES];
+    wanted[device] = 1;
+    let mut owner = [0usize; DEVICES];
+    own_communities(n, firsts, seconds, signals, p, q, &wanted, &mut owner);
+    let mark = mark_owned(n, device, &owner);
     copy_marks(n, &mark, marks);
     let size = count_marks(n, &mark);
     let out = cut_signals(firsts, seconds, signals, &mark);

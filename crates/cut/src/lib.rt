@@ -1,9 +1,6 @@
-// The cut part: rates, the check of a plant, and the community of a device.
+// The cut part: rates, the check of a plant, and the communities of its devices.
 pub mod check;
 pub mod community;
-mod index;
-mod least;
 pub mod owners;
-mod path;
 pub mod rate;
-mod reach;
+mod sets;

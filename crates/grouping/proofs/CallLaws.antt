@@ -1,6 +1,6 @@
 -- What the calls answer and leave in the lent list, refused and accepted, from what the search for owners promises.
 -- Assumes nothing.
-use mathlib.Core.Path.{_≡_, refl, sym, _∙_, ap}
+use mathlib.Core.Path.{_≡_, refl, sym, subst, _∙_, ap}
 use mathlib.Core.List.{List}
 use mathlib.Core.Logic.{⊎-elim}
 use Prim.Native.Nat.{ℕ, _≤_, _<_}
@@ -14,19 +14,20 @@ use Rattle.rules.specs.Groups.{table, groups, distinct}
 use Rattle.rules.specs.Refusals.{done}
 use Rattle.rules.proofs.RefusalLaws.{accepted-sound}
 use Rattle.rules.specs.Lists.{over}
-use Rattle.cut.specs.Calls.{wantedIn, ownersFault, ownersOf, ownersAfter}
+use Rattle.cut.specs.Calls.{ownersFault, ownersAfter}
 use Rattle.rules.proofs.RangeLaws.{InRange, range-in}
 use Rattle.grouping.specs.Calls.{groupingFault, groupingAnswer, labelsAfter}
-use Rattle.grouping.specs.Level.{firstWith, IsLevel, Enough, ownsItself, Between}
+use Rattle.grouping.specs.Level.{firstWith, IsLevel, Swept}
+use Rattle.grouping.specs.declared.level.Level.{Level}
 use Rattle.grouping.proofs.FaultLaws.{Clear, owners-done, owners-cases, grouping-short, grouping-done}
-use Rattle.grouping.proofs.LevelLaws.{enough-devices, enough-groups, enough-level, enough-all, enough-between}
+use Rattle.grouping.proofs.LevelLaws.{swept-all, swept-devices, swept-groups, swept-level}
 
 module _ (n : ℕ) (xs ys zs : List ℕ) (p q : ℕ) where
   abbrev g : Plant
   g = plantOf n xs ys zs
 
   abbrev fault : Refusal
-  fault = ownersFault n xs ys zs p q 128 128 128
+  fault = ownersFault n xs ys zs p q 128
 
   -- a search that is not refused
   pub clear-of : (r : Refusal) → r ≡ fault → r .number ≡ 0 → Clear n xs ys zs p q
@@ -39,34 +40,24 @@ module _ (n : ℕ) (xs ys zs : List ℕ) (p q : ℕ) where
     range : InRange p q
     range = range-in p q (clear .rate)
 
-    -- with no fence and every device wanted it is enough
-    pub all-enough : Enough g p q (replicate 128 0) (replicate 128 1)
-    unfolding plantOf
-    all-enough = enough-all g p q sound (range .p-least) (clear .accepted .most-devices)
+    -- what the search for owners leaves
+    pub all-swept : (owner : List ℕ) → owner ≡ ownersAfter n xs ys zs p q (replicate 128 0) → Swept g p q owner
+    unfolding ownersAfter done
+    all-swept owner e = swept-all g p q sound (range .p-least) (replicate 128 0) owner (e ∙ rw (owners-done n xs ys zs p q clear))
 
-    -- between two known levels
-    pub between-enough : (owner fence : List ℕ) → Between g p q owner fence → (wanted : List ℕ) → ((v : ℕ) → v < n → wantedIn wanted v ≡ ownsItself owner v) → Enough g p q fence wanted
-    unfolding plantOf
-    between-enough owner fence between wanted marked = enough-between g p q sound (range .q-least) owner fence between wanted marked
-
-    module _ (fence wanted : List ℕ) (wide : length fence ≡ 128) (wide′ : length wanted ≡ 128) (enough : Enough g p q fence wanted) (owner : List ℕ)
-        (found : owner ≡ ownersAfter n xs ys zs p q fence wanted (replicate 128 0)) where
-      filled : owner ≡ over (ownersOf g p q fence wanted) (replicate 128 0)
-      unfolding ownersAfter done
-      filled = found ∙ rw (wide, wide′, owners-done n xs ys zs p q clear)
-
+    module _ {owner : List ℕ} (swept : Swept (plantOf n xs ys zs) p q owner) where
       pub found-devices : (v : ℕ) → v < n → getD owner v 0 < n
       unfolding plantOf
-      found-devices v h = rw filled (enough-devices g p q sound (range .p-least) fence wanted enough (replicate 128 0) v h)
+      found-devices = swept-devices g p q sound (range .p-least) swept
 
       pub found-groups : table n (firstWith n owner) ≡ groups g p q
       unfolding plantOf
-      found-groups = rw filled (enough-groups g p q sound (range .p-least) fence wanted enough (replicate 128 0))
+      found-groups = swept-groups g p q sound (range .p-least) swept
 
-      pub found-level : {labels : List ℕ} {count : ℕ} → labels ≡ over (table n (firstWith n owner)) (replicate 128 0) → count ≡ distinct (table n (firstWith n owner))
-          → IsLevel g p q (record { labels = labels; owner = owner; groups = count })
+      pub found-level : {level : Level} → (level .owner ≡ owner) × (level .labels ≡ over (table n (firstWith n owner)) (replicate 128 0)) × (level .groups ≡ distinct (table n (firstWith n owner)))
+          → IsLevel g p q level
       unfolding plantOf
-      found-level a b = enough-level g p q sound (range .p-least) fence wanted enough (clear .accepted .most-devices) filled a b
+      found-level {level} (a, b, e) = subst (λ (o : List ℕ). IsLevel g p q (record { labels = level .labels; owner = o; groups = level .groups })) (sym a) (swept-level g p q sound (range .p-least) swept (clear .accepted .most-devices) b e)
 
   -- the answer and the labels of a refused call
   kept : (r : Refusal) (labels : List ℕ) → groupingFault n xs ys zs p q (length labels) ≡ r → (r .number ≡ 0 → ⊥)

@@ -45,10 +45,10 @@ module _ (n : ℕ) (xs ys zs : List ℕ) (p q : ℕ) where
 
   -- the search for owners, with room for 128 devices, is refused for plant or rate alone
   rooms : Refusal
-  rooms = firstOf (roomFault n 128 ∷ roomFault n 128 ∷ roomFault n 128 ∷ [])
+  rooms = roomFault n 128
 
   fault : Refusal
-  fault = ownersFault n xs ys zs p q 128 128 128
+  fault = ownersFault n xs ys zs p q 128
 
   fault-is : fault ≡ call rooms
   unfolding fault ownersFault rooms afterPlant about plantSays nothing firstOf
@@ -58,12 +58,12 @@ module _ (n : ℕ) (xs ys zs : List ℕ) (p q : ℕ) where
   unfolding groupingFault afterPlant about plantSays nothing firstOf
   grouping-is room = call-is n xs ys zs _ refl refl refl refl ∙ simp done-next
 
-  pub owners-done : Clear → ownersFault n xs ys zs p q 128 128 128 ≡ done
+  pub owners-done : Clear → ownersFault n xs ys zs p q 128 ≡ done
   unfolding fault rooms firstOf orElse cause done roomFault
   owners-done c = fault-is ∙ call-room rooms c ∙ rw (le-ltb 128 n (c .accepted .most-devices))
 
   -- of a call that is refused for plant or rate the grouping call says the same
-  pub owners-cases : (room : ℕ) → Clear ⊎ ((groupingFault n xs ys zs p q room ≡ ownersFault n xs ys zs p q 128 128 128) × (ownersFault n xs ys zs p q 128 128 128 .number ≡ 0 → ⊥))
+  pub owners-cases : (room : ℕ) → Clear ⊎ ((groupingFault n xs ys zs p q room ≡ ownersFault n xs ys zs p q 128) × (ownersFault n xs ys zs p q 128 .number ≡ 0 → ⊥))
   unfolding fault
   owners-cases room = go (ℕ-discrete (plant .number) 0) (rateOk p q) refl
     where

@@ -1,5 +1,5 @@
 -- Lists with a number for each label, added up item by item: the sizes of groups, device by device, and their outs, line by line.
---     Tally      after k items each number is the sum of what they add to it
+--     Tally      after k items each number is what it was before them and the sum of what they add to it
 --     sized-..   the sizes
 --     outed-..   the outs
 -- Assumes nothing.
@@ -7,7 +7,7 @@ use Prim.Native.Nat.{ℕ, _+_, _*_, _≤_, _<_}
 use mathlib.Core.Path.{_≡_, refl, sym, ap, _∙_}
 use mathlib.Core.Bool.{Bool, true, false, cond}
 use mathlib.Core.List.{List}
-use native.Mathlib.Nat.{le-trans, le-of-eq, add-zero}
+use native.Mathlib.Nat.{le-trans, add-zero, zero-add}
 use native.Mathlib.Numerals.{add-one}
 use native.Mathlib.Decide.{ℕ-discrete}
 use native.Mathlib.Omega.{arith}
@@ -25,57 +25,64 @@ use Rattle.rules.proofs.SumLaws.{sum-most, out-sum, below-sum}
 use Rattle.grouping.specs.Stretch.{withLabel, LabelsBelow, SizesOf, OutsOf}
 
 -- x more at place i
-abbrev more : List ℕ → ℕ → ℕ → List ℕ
+abbrev pub more : List ℕ → ℕ → ℕ → List ℕ
 more l i x = set l i (getD l i 0 + x)
 
-more-at : (l : List ℕ) (i x h : ℕ) → i < length l → getD (more l i x) h 0 ≡ getD l h 0 + cond (eqb i h) x 0
+pub more-at : (l : List ℕ) (i x h : ℕ) → i < length l → getD (more l i x) h 0 ≡ getD l h 0 + cond (eqb i h) x 0
 more-at l i x h b = go (ℕ-discrete h i)
   where
     go : Dec (h ≡ i) → getD (more l i x) h 0 ≡ getD l h 0 + cond (eqb i h) x 0
     go (yes e) = rw (e, getD-set-same l i (getD l i 0 + x) 0 b, eq-eqb i i refl)
     go (no ne) = rw (getD-set-other l i h (getD l i 0 + x) 0 ne, ne-eqb i h (λ e. ne (sym e))) (sym (add-zero (getD l h 0)))
 
--- after k items, f h j being what item j adds to the number of label h
-pub record Tally (n : ℕ) (f : ℕ → ℕ → ℕ) (list : List ℕ) (k : ℕ) : Type 0 where
+-- after k items, base h being the number of label h before them and f h j what item j adds to it
+pub record Tally (n : ℕ) (base : ℕ → ℕ) (f : ℕ → ℕ → ℕ) (list : List ℕ) (k : ℕ) : Type 0 where
   pub wide : length list ≡ 128
-  pub so-far : (h : ℕ) → h < n → getD list h 0 ≡ sum k (f h)
+  pub so-far : (h : ℕ) → h < n → getD list h 0 ≡ base h + sum k (f h)
 
-module _ (n : ℕ) (f : ℕ → ℕ → ℕ) where
-  pub tally-start : n ≤ 128 → Tally n f (replicate 128 0) 0
+-- the numbers before the first item, where each is 0
+abbrev pub none : ℕ → ℕ
+none h = 0
+
+module _ (n : ℕ) where
+  pub tally-from : (base : ℕ → ℕ) (f : ℕ → ℕ → ℕ) {list : List ℕ} → length list ≡ 128 → ((h : ℕ) → h < n → getD list h 0 ≡ base h) → Tally n base f list 0
   unfolding sum
-  tally-start small = record { wide = length-replicate {A = ℕ} 128 0; so-far = λ h l. getD-replicate {A = ℕ} 128 h 0 0 (omega arith) }
+  tally-from base f w e = record { wide = w; so-far = λ h l. e h l ∙ sym (add-zero (base h)) }
 
-  module _ {list : List ℕ} {k : ℕ} (t : Tally n f list k) where
-    tally-next : {list′ : List ℕ} → length list′ ≡ length list → ((h : ℕ) → h < n → getD list′ h 0 ≡ getD list h 0 + f h k) → Tally n f list′ (k + 1)
-    unfolding sum
-    tally-next w e = record { wide = w ∙ t .wide; so-far = λ h l. rw (add-one k) (e h l ∙ ap (λ (m : ℕ). m + f h k) (t .so-far h l)) }
+  pub tally-start : (f : ℕ → ℕ → ℕ) → n ≤ 128 → Tally n none f (replicate 128 0) 0
+  tally-start f small = tally-from none f (length-replicate {A = ℕ} 128 0) (λ h l. getD-replicate {A = ℕ} 128 h 0 0 (omega arith))
 
-    pub tally-most : (b : ℕ) → ((h j : ℕ) → j < k → f h j ≤ b) → (h : ℕ) → h < n → getD list h 0 ≤ k * b
-    tally-most b most h l = le-trans (le-of-eq (t .so-far h l)) (sum-most k (f h) b (most h))
+module _ {n : ℕ} {base : ℕ → ℕ} {f : ℕ → ℕ → ℕ} {list : List ℕ} {k : ℕ} (t : Tally n base f list k) where
+  pub tally-next : {list′ : List ℕ} → length list′ ≡ length list → ((h : ℕ) → h < n → getD list′ h 0 ≡ getD list h 0 + f h k) → Tally n base f list′ (k + 1)
+  unfolding sum
+  tally-next w e = record { wide = w ∙ t .wide; so-far = λ h l. rw (add-one k) (omega (arith, e h l, t .so-far h l)) }
+
+  pub tally-most : (b : ℕ) → ((h j : ℕ) → j < k → f h j ≤ b) → (h : ℕ) → h < n → getD list h 0 ≤ base h + k * b
+  tally-most b most h l = omega (arith, t .so-far h l, sum-most k (f h) b (most h))
 
 -- what device v adds to the size of the group with label h
 abbrev pub sizeOf : List ℕ → ℕ → ℕ → ℕ
 sizeOf labels h v = cond (withLabel labels h v) 1 0
 
-module _ (n : ℕ) (labels : List ℕ) {sizes : List ℕ} {v : ℕ} (t : Tally n (sizeOf labels) sizes v) where
+module _ (n : ℕ) (labels : List ℕ) {sizes : List ℕ} {v : ℕ} (t : Tally n none (sizeOf labels) sizes v) where
   pub sized-most : (h : ℕ) → h < n → getD sizes h 0 ≤ v
-  sized-most h l = omega (arith, tally-most n (sizeOf labels) t 1 (λ h j b. cond-most (withLabel labels h j) 1) h l)
+  sized-most h l = omega (arith, tally-most t 1 (λ h j b. cond-most (withLabel labels h j) 1) h l)
 
-  pub sized-next : getD labels v 0 < 128 → Tally n (sizeOf labels) (set sizes (getD labels v 0) (getD sizes (getD labels v 0) 0 + 1)) (v + 1)
+  pub sized-next : getD labels v 0 < 128 → Tally n none (sizeOf labels) (set sizes (getD labels v 0) (getD sizes (getD labels v 0) 0 + 1)) (v + 1)
   unfolding withLabel
-  sized-next l = tally-next n (sizeOf labels) t (simp length-set) (λ h b. more-at sizes (getD labels v 0) 1 h (omega (arith, t .wide)))
+  sized-next l = tally-next t (simp length-set) (λ h b. more-at sizes (getD labels v 0) 1 h (omega (arith, t .wide)))
 
   pub sized-done : n ≤ v → v ≤ n → (g : Plant) → g .devices ≡ n → SizesOf g labels sizes
   unfolding size sizeAt
   sized-done a b g e h l =
       let same : v ≡ g .devices = omega arith in
-      t .so-far h (omega arith) ∙ ap (λ (m : ℕ). sum m (sizeOf labels h)) same ∙ sym (below-sum g (g .devices) (withLabel labels h))
+      t .so-far h (omega arith) ∙ zero-add _ ∙ ap (λ (m : ℕ). sum m (sizeOf labels h)) same ∙ sym (below-sum g (g .devices) (withLabel labels h))
 
 -- what line l adds to the out of the group with label h
 abbrev pub outOf : List ℕ → List ℕ → List ℕ → List ℕ → ℕ → ℕ → ℕ
 outOf xs ys zs labels h l = crossing (getD zs l 0) (withLabel labels h (getD xs l 0)) (withLabel labels h (getD ys l 0))
 
-crossing-none : (s : ℕ) (b : Bool) → crossing s b b ≡ 0
+pub crossing-none : (s : ℕ) (b : Bool) → crossing s b b ≡ 0
 unfolding crossing
 crossing-none s true = refl
 crossing-none s false = refl
@@ -91,25 +98,47 @@ crossing-both s i j h ne = go (eqb i h) (eqb j h) refl refl
     go false true e f = omega arith
     go false false e f = refl
 
--- line l: its ends and their labels are devices, its signals few, and there is room for them in the outs of the first l lines
-pub record LineFits (n : ℕ) (xs ys zs labels outs : List ℕ) (l : ℕ) : Type 0 where
+-- line l: its ends and their labels are devices, its signals few, and the numbers of its two labels at most top
+pub record LineFits (n : ℕ) (xs ys zs labels list : List ℕ) (l top : ℕ) : Type 0 where
   pub first : getD xs l 0 < n
   pub second : getD ys l 0 < n
   pub first-label : getD labels (getD xs l 0) 0 < n
   pub second-label : getD labels (getD ys l 0) 0 < n
   pub few : getD zs l 0 ≤ 65535
-  pub first-out : getD outs (getD labels (getD xs l 0) 0) 0 ≤ l * 65535
-  pub second-out : getD outs (getD labels (getD ys l 0) 0) 0 ≤ l * 65535
+  pub first-top : getD list (getD labels (getD xs l 0) 0) 0 ≤ top
+  pub second-top : getD list (getD labels (getD ys l 0) 0) 0 ≤ top
   pub in-seconds : l < length ys
   pub in-signals : l < length zs
   pub most-lines : l < 1024
   pub most-devices : n ≤ 128
 
+pub line-fits : {n : ℕ} {xs ys zs : List ℕ} (labels list : List ℕ) (l top : ℕ) → Accepted n xs ys zs → LabelsBelow n labels → l < length xs
+    → ((h : ℕ) → h < n → getD list h 0 ≤ top) → LineFits n xs ys zs labels list l top
+line-fits {n} {xs} {ys} labels list l top a below b most = record {
+  first = a .first-device l b;
+  second = a .second-device l b;
+  first-label = first-label;
+  second-label = second-label;
+  few = a .most-signals l b;
+  first-top = most _ first-label;
+  second-top = most _ second-label;
+  in-seconds = omega (arith, a .one-length);
+  in-signals = omega (arith, a .one-length, a .one-length′);
+  most-lines = omega (arith, a .most-lines);
+  most-devices = a .most-devices;
+}
+  where
+    first-label : getD labels (getD xs l 0) 0 < n
+    first-label = below _ (a .first-device l b)
+
+    second-label : getD labels (getD ys l 0) 0 < n
+    second-label = below _ (a .second-device l b)
+
 module _ (n : ℕ) (xs ys zs labels : List ℕ) where
   abbrev f : ℕ → ℕ → ℕ
   f = outOf xs ys zs labels
 
-  module _ {outs : List ℕ} {l : ℕ} (t : Tally n (outOf xs ys zs labels) outs l) where
+  module _ {outs : List ℕ} {l : ℕ} (t : Tally n none (outOf xs ys zs labels) outs l) where
     abbrev i : ℕ
     i = getD labels (getD xs l 0) 0
 
@@ -120,48 +149,36 @@ module _ (n : ℕ) (xs ys zs labels : List ℕ) where
     s = getD zs l 0
 
     outed-most : ((k : ℕ) → k < l → getD zs k 0 ≤ 65535) → (h : ℕ) → h < n → getD outs h 0 ≤ l * 65535
-    outed-most most =
-        tally-most n f t 65535
-        (λ h k b. le-trans (crossing-most (getD zs k 0) (withLabel labels h (getD xs k 0)) (withLabel labels h (getD ys k 0))) (most k b))
+    outed-most most h b =
+        omega (
+          arith,
+          tally-most t 65535
+              (λ h k b. le-trans (crossing-most (getD zs k 0) (withLabel labels h (getD xs k 0)) (withLabel labels h (getD ys k 0))) (most k b))
+              h
+              b,
+        )
 
-    pub outed-fits : Accepted n xs ys zs → LabelsBelow n labels → l < length xs → LineFits n xs ys zs labels outs l
-    outed-fits a below b = record {
-      first = a .first-device l b;
-      second = a .second-device l b;
-      first-label = first-label;
-      second-label = second-label;
-      few = a .most-signals l b;
-      first-out = outed-most (λ k m. a .most-signals k (omega arith)) _ first-label;
-      second-out = outed-most (λ k m. a .most-signals k (omega arith)) _ second-label;
-      in-seconds = omega (arith, a .one-length);
-      in-signals = omega (arith, a .one-length, a .one-length′);
-      most-lines = omega (arith, a .most-lines);
-      most-devices = a .most-devices;
-    }
-      where
-        first-label : getD labels (getD xs l 0) 0 < n
-        first-label = below _ (a .first-device l b)
+    pub outed-fits : Accepted n xs ys zs → LabelsBelow n labels → l < length xs → LineFits n xs ys zs labels outs l (l * 65535)
+    outed-fits a below b = line-fits labels outs l (l * 65535) a below b (outed-most (λ k m. a .most-signals k (omega arith)))
 
-        second-label : getD labels (getD ys l 0) 0 < n
-        second-label = below _ (a .second-device l b)
-
-    pub outed-other : i ≡ j → Tally n (outOf xs ys zs labels) outs (l + 1)
+    pub outed-other : i ≡ j → Tally n none (outOf xs ys zs labels) outs (l + 1)
     unfolding withLabel
-    outed-other e = tally-next n f t refl (λ h b. rw (e, crossing-none s (eqb j h)) (sym (add-zero (getD outs h 0))))
+    outed-other e = tally-next t refl (λ h b. rw (e, crossing-none s (eqb j h)) (sym (add-zero (getD outs h 0))))
 
     pub outed-both : (i ≡ j → ⊥) → i < 128 → j < 128
-        → Tally n (outOf xs ys zs labels) (set (set outs i (getD outs i 0 + s)) j (getD (set outs i (getD outs i 0 + s)) j 0 + s)) (l + 1)
+        → Tally n none (outOf xs ys zs labels) (set (set outs i (getD outs i 0 + s)) j (getD (set outs i (getD outs i 0 + s)) j 0 + s)) (l + 1)
     unfolding withLabel
     outed-both ne bi bj =
-        tally-next n f t (simp length-set)
+        tally-next t (simp length-set)
         (λ h b.
         let first = more-at outs i s h (omega (arith, t .wide)) in
         let second = more-at (more outs i s) j s h (simp length-set (omega (arith, t .wide))) in
         omega (arith, crossing-both s i j h ne))
 
-  pub outed-done : Accepted n xs ys zs → {outs : List ℕ} {l : ℕ} → Tally n (outOf xs ys zs labels) outs l → l ≡ length xs → OutsOf (plantOf n xs ys zs) labels outs
+  pub outed-done : Accepted n xs ys zs → {outs : List ℕ} {l : ℕ} → Tally n none (outOf xs ys zs labels) outs l → l ≡ length xs → OutsOf (plantOf n xs ys zs) labels outs
   unfolding plantOf
   outed-done a t e h b =
       t .so-far h b
+      ∙ zero-add _
       ∙ ap (λ (m : ℕ). sum m (f h)) e
       ∙ sym (out-sum xs ys zs (withLabel labels h) (a .one-length) (a .one-length′))

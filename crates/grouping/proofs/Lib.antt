@@ -3,6 +3,9 @@
 --     MarkLaws    the marks of the devices that own themselves
 --     FaultLaws   the first fault of the grouping call
 --     LevelLaws   levels, and what it is enough to search for one
+--     BetweenLaws the network between two levels
+--     JoinNetLaws the lines of that network
+--     DrainLaws   the drains of that network
 --     GroupSums   the sizes and outs of groups, added up by their labels
 --     BestLaws    the greatest crossing rate of each coarser group, and the least of these
 --     SearchLaws  the recursive search between two levels, on plain lists
@@ -20,6 +23,9 @@ pub mod OwnerLaws
 pub mod MarkLaws
 pub mod FaultLaws
 pub mod LevelLaws
+pub mod BetweenLaws
+pub mod DrainLaws
+pub mod JoinNetLaws
 pub mod BestLaws
 pub mod RowLaws
 pub mod HalfLaws

@@ -8,7 +8,7 @@ use lib.ListN.{length, getD, set, replicate, length-set, length-replicate, getD-
 use lib.Seq.{getD-set-same, getD-set-other}
 use borrow.Author.Tests.{eq-eqb, ne-eqb}
 use borrow.Author.Count.{below-more}
-use Rattle.cut.specs.Calls.{wantedIn}
+use Rattle.rules.specs.Sweep.{wantedIn}
 use Rattle.grouping.specs.Level.{ownsItself}
 
 -- the marks of the devices below v; all others are 0

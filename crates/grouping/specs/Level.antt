@@ -7,11 +7,11 @@ use mathlib.Core.List.{List}
 use lib.Dec.{eqb}
 use lib.ListN.{length, getD}
 use Rattle.rules.specs.Plant.{Plant}
-use Rattle.rules.specs.Sets.{Inside, Agree}
+use Rattle.rules.specs.Sets.{Agree}
 use Rattle.rules.specs.Community.{community}
 use Rattle.rules.specs.Groups.{groupOf, label, groups, distinct}
 use Rattle.rules.specs.Order.{lowestWith}
-use Rattle.cut.specs.Calls.{fenceOf, wantedIn}
+use Rattle.rules.specs.Sweep.{sweep}
 use Rattle.grouping.specs.declared.level.Level.{Level}
 
 -- the lowest of n devices with the owner of v
@@ -35,17 +35,18 @@ pub record IsLevel (g : Plant) (p q : ℕ) (level : Level) : Type 0 where
   pub owned : Owned g p q (level .owner)
   pub wide : length (level .labels) ≡ 128
 
--- it is enough to search the wanted devices, each inside its fence: each community lies inside its device's fence, and each device lies in the community of a wanted one
-pub record Enough (g : Plant) (p q : ℕ) (fence wanted : List ℕ) : Type 0 where
-  pub fenced : (d : ℕ) → d < g .devices → Inside (g .devices) (community g p q d) (fenceOf fence d)
-  pub covers : (d : ℕ) → d < g .devices → (r : ℕ) × (r < g .devices) × (wantedIn wanted r ≡ true) × (community g p q r d ≡ true)
+-- the owners that going once through the wanted devices leaves, each device lying in the community of a wanted one
+pub record Swept (g : Plant) (p q : ℕ) (owner : List ℕ) : Type 0 where
+  pub wanted : ℕ → Bool
+  pub covers : (d : ℕ) → d < g .devices → (r : ℕ) × (r < g .devices) × (wanted r ≡ true) × (community g p q r d ≡ true)
+  pub owns : (v : ℕ) → v < g .devices → getD owner v 0 ≡ sweep (community g p q) wanted (g .devices) (g .devices) v
 
 -- the devices that own themselves: one for each group
 unfoldable pub ownsItself : List ℕ → ℕ → Bool
 ownsItself owner v = eqb (getD owner v 0) v
 
 -- the rate p/q lies between those of two levels, the finer one's owners and the coarser one's labels being known: it is not above the finer one's rate and not below the coarser one's
-pub record Between (g : Plant) (p q : ℕ) (owner fence : List ℕ) : Type 0 where
+pub record Between (g : Plant) (p q : ℕ) (owner wall : List ℕ) : Type 0 where
   pub high-p : ℕ
   pub high-q : ℕ
   pub low-p : ℕ
@@ -54,6 +55,6 @@ pub record Between (g : Plant) (p q : ℕ) (owner fence : List ℕ) : Type 0 whe
   pub some-low-p : 1 ≤ low-p
   pub some-low-q : 1 ≤ low-q
   pub finer-is : Owned g high-p high-q owner
-  pub coarser-is : Labelled g low-p low-q fence
+  pub coarser-is : Labelled g low-p low-q wall
   pub not-above : p * high-q ≤ high-p * q
   pub not-below : low-p * q ≤ p * low-q

@@ -25,19 +25,8 @@ pub fn groups_at(
     ensures { λ r. ⌜ r ≡ groupingAnswer n (now (firsts .entry)) (now (seconds .entry)) (now (signals .entry)) (rate .p) (rate .q) (now (labels .entry)) ⌝ }
     ensures { λ _. ⌜ now (labels .exit) ≡ labelsAfter n (now (firsts .entry)) (now (seconds .entry)) (now (signals .entry)) (rate .p) (rate .q) (now (labels .entry)) ⌝ }
 {
-    let fence = [0usize; DEVICES];
-    let wanted = [1u8; DEVICES];
     let mut owner = [0usize; DEVICES];
-    let fault = owners(
-        n,
-        firsts,
-        seconds,
-        signals,
-        rate,
-        &fence,
-        &wanted,
-        &mut owner,
-    );
+    let fault = owners(n, firsts, seconds, signals, rate, &mut owner);
     if fault.number != 0 {
         return Grouping {
             number: fault.number,

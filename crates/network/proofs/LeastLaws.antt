@@ -14,7 +14,7 @@ use native.Mathlib.Omega.{arith}
 use lib.ListN.{length, getD, set, length-set}
 use lib.Seq.{getD-set-same, getD-set-other}
 use Rattle.network.specs.Calls.{Network}
-use Rattle.network.specs.Search.{Laid, Way, Scan, Found, Standing, Led, Sent, Spares}
+use Rattle.network.specs.Search.{Started, Laid, Way, Scan, Found, Standing, Led, Sent, Spares}
 use Rattle.network.proofs.ReachLaws.{count-most}
 use Rattle.network.proofs.SpareLaws.{spares-start, spares-sent, nodes-below}
 
@@ -41,7 +41,7 @@ opened-step {P} {size} {list} {k} opened b x new = record {
 abbrev pub Copied : List ℕ → ℕ → ℕ → Type 0
 Copied zs l x = x ≡ getD zs l 0
 
-pub laid-network : {k : ℕ} {xs ys zs ds : List ℕ} {start room : ℕ} → Network k xs ys zs ds start room → Laid xs ys
+pub laid-network : {k : ℕ} {xs ys zs ds : List ℕ} → Network k xs ys zs ds → Laid xs ys
 laid-network a = record {
   few = a .lines;
   even = a .even;
@@ -84,9 +84,12 @@ pub record Sending (k : ℕ) (xs ys zs ds : List ℕ) (start : ℕ) (fs rs ws no
   pub none : found ≡ false → Scan xs ys fs rs ws start nodes vias froms marks count count (length xs)
 
 -- of a network
-module _ {k : ℕ} {xs ys zs ds : List ℕ} {start room : ℕ} (network : Network k xs ys zs ds start room) where
+module _ {k : ℕ} {xs ys zs ds : List ℕ} {start : ℕ} (started : Started k xs ys zs ds start) where
+  abbrev network : Network k xs ys zs ds
+  network = started .network
+
   pub led-below : {fs rs ws nodes vias froms : List ℕ} {count : ℕ} → Led xs ys fs rs ws start nodes vias froms count → (j : ℕ) → j < count → getD nodes j 0 < k
-  led-below led = nodes-below k (led .way) (rw (led .root) (network .node)) (λ l b. omega (arith, network .line l b .rising, network .line l b .ends)) (λ l b. network .line l b .ends)
+  led-below led = nodes-below k (led .way) (rw (led .root) (started .node)) (λ l b. omega (arith, network .line l b .rising, network .line l b .ends)) (λ l b. network .line l b .ends)
 
   module _ {fs rs ws : List ℕ} where
     pub spares-opened : ((l : ℕ) → l < length zs → Copied zs l (getD fs l 0)) → ((l : ℕ) → l < length zs → Copied zs l (getD rs l 0))

@@ -1,13 +1,13 @@
 -- The way back from a place of the queue to place 0, and what goes along it.
---     far-two                           the far ends of two devices of one line
+--     far-two, far-other                the far ends of two devices of one line
 --     over-sent                         what goes over one line out of one of its ends has gone to the other end
 --     sent-none, sent-on                nothing has gone from a device to itself; what went on to a place went on from the place before
 --     clear-spare, clear-rest            the last line of a way with something to spare, and the way before it
---     clear-less                        what is less can go where more can
 --     clear-kept                        what goes over the last line of a way leaves the way before it as clear as it was
 --     Narrow, narrow-start, -step, -end    the least spare on the way, found from its end back to place 0
+--     Used, used-start, -spare, -none, -end   the least place of the way whose line has nothing to spare, found from its end back to place 0
 --     Going, going-start, -step, -end      what has gone over the lines of the way, from its end back to place 0
---     going-kept                           and what that left of the spares
+--     going-kept, kept-full                and what that left of the spares
 -- Assumes nothing.
 use Prim.Native.Nat.{ℕ, _+_, _-_, _≤_, _<_}
 use mathlib.Core.Path.{_≡_, refl, sym, ap, _∙_}
@@ -23,7 +23,7 @@ use lib.Seq.{getD-set-same, getD-set-other}
 use Rattle.rules.specs.Numbers.{sum}
 use Rattle.rules.proofs.SumLaws.{sum-change}
 use Rattle.network.proofs.EndLaws.{touches-other, far-first, far-second}
-use Rattle.network.specs.Search.{passing, linesLeave, spareFrom, farEnd, touches, Way, Clear, start, onward, forthAfter, backAfter, Sent, Passable, Kept}
+use Rattle.network.specs.Search.{passing, linesLeave, spareFrom, spareTo, farEnd, touches, Way, Clear, start, onward, On, here, back, forthAfter, backAfter, Sent, Kept}
 use Rattle.rules.specs.Cut.{Devices}
 
 -- of two devices that a line touches, the far ends are the same, or the second is the far end of the first
@@ -36,6 +36,16 @@ far-two xs ys l u v s t = go (ℕ-discrete (getD xs l 0) u) (ℕ-discrete (getD 
     go (yes d) (no i) = inr (far-first xs ys l u d ∙ touches-other xs ys l v t i)
     go (no h) (yes e) = inr (far-second xs ys l u h ∙ e)
     go (no h) (no i) = inl (far-second xs ys l u h ∙ sym (far-second xs ys l v i))
+
+-- and two that differ are each other's far end
+pub far-other : (xs ys : List ℕ) (l u v : ℕ) → touches xs ys l u ≡ true → touches xs ys l v ≡ true → (u ≡ v → ⊥) → farEnd xs ys l u ≡ v
+far-other xs ys l u v s t n = go (ℕ-discrete (getD xs l 0) u) (ℕ-discrete (getD xs l 0) v)
+  where
+    go : Dec (getD xs l 0 ≡ u) → Dec (getD xs l 0 ≡ v) → farEnd xs ys l u ≡ v
+    go (yes d) (yes e) = absurd (n (sym d ∙ e))
+    go (yes d) (no i) = far-first xs ys l u d ∙ touches-other xs ys l v t i
+    go (no h) (yes e) = far-second xs ys l u h ∙ e
+    go (no h) (no i) = absurd (n (sym (touches-other xs ys l u s h) ∙ touches-other xs ys l v t i))
 
 -- one line: a and b say whether its first and its second end are in the set, s whether δ goes out of the first end or out of the second
 crossed : (s a b : Bool) (f r δ : ℕ) → δ ≤ cond s f r
@@ -129,18 +139,13 @@ module _ (xs ys : List ℕ) where
 
 -- the last line of a way that is clear, and the way before it
 module _ (xs fs rs nodes vias froms : List ℕ) (δ : ℕ) where
-  pub clear-spare : {j : ℕ} → 1 ≤ j → Clear xs fs rs nodes vias froms δ j → δ ≤ spareFrom xs fs rs (getD vias j 0) (getD nodes (getD froms j 0) 0)
+  pub clear-spare : {j : ℕ} → 1 ≤ j → Clear xs fs rs nodes vias froms δ j → δ ≤ spareTo xs fs rs nodes vias froms j
   clear-spare b start = absurd (omega arith)
   clear-spare b (onward p r rest) = r
 
   pub clear-rest : {j : ℕ} → 1 ≤ j → Clear xs fs rs nodes vias froms δ j → Clear xs fs rs nodes vias froms δ (getD froms j 0)
   clear-rest b start = absurd (omega arith)
   clear-rest b (onward p r rest) = rest
-
--- what is less can go where more can
-pub clear-less : {xs fs rs nodes vias froms : List ℕ} {δ ε j : ℕ} → δ ≤ ε → Clear xs fs rs nodes vias froms ε j → Clear xs fs rs nodes vias froms δ j
-clear-less b start = start
-clear-less b (onward p r rest) = onward p (omega arith) (clear-less b rest)
 
 -- no line comes twice on a way
 module _ (xs ys nodes vias froms : List ℕ) (count : ℕ) (way : Way xs ys nodes vias froms count) (j : ℕ) (b : j < count) where
@@ -165,24 +170,29 @@ module _ (xs ys nodes vias froms : List ℕ) (count : ℕ) (way : Way xs ys node
 apart : (i j : ℕ) → (i ≡ j → ⊥) → (i < j) ⊎ (j < i)
 apart i j n = elim (decLt i j) [ yes m ↦ inl m | no m ↦ inr (omega arith) ]
 
--- whatever is at most `most` and can go to place j can go to place `last`
+-- whatever is at most `most` and can go to place j can go to place `last`; `most` is the limit or what the line of a place on the way has to spare
 pub record Narrow (xs fs rs nodes vias froms : List ℕ) (last limit most j : ℕ) : Type 0 where
   pub some : 1 ≤ most
   pub capped : most ≤ limit
   pub within : j ≤ last
+  pub on : (i : ℕ) → On froms j i → On froms last i
+  pub full : (most ≡ limit) ⊎ ((i : ℕ) × (1 ≤ i) × (i < last + 1) × On froms last i × (spareTo xs fs rs nodes vias froms i ≡ most))
   pub clear : (δ : ℕ) → δ ≤ most → Clear xs fs rs nodes vias froms δ j → Clear xs fs rs nodes vias froms δ last
 
 module _ (xs fs rs nodes vias froms : List ℕ) (last limit : ℕ) where
   pub narrow-start : 1 ≤ limit → Narrow xs fs rs nodes vias froms last limit limit last
-  narrow-start h = record { some = h; capped = omega arith; within = omega arith; clear = λ δ b c. c }
+  narrow-start h = record { some = h; capped = omega arith; within = omega arith; on = λ i o. o; full = inl refl; clear = λ δ b c. c }
 
   pub narrow-step : {most j : ℕ} (least : ℕ) → Narrow xs fs rs nodes vias froms last limit most j → 1 ≤ j → getD froms j 0 < j
-      → 1 ≤ least → least ≤ most → least ≤ spareFrom xs fs rs (getD vias j 0) (getD nodes (getD froms j 0) 0)
+      → 1 ≤ least → least ≤ most → least ≤ spareTo xs fs rs nodes vias froms j
+      → (least ≡ most) ⊎ (least ≡ spareTo xs fs rs nodes vias froms j)
       → Narrow xs fs rs nodes vias froms last limit least (getD froms j 0)
-  narrow-step least n o p s m r = record {
+  narrow-step {most} {j} least n o p s m r which = record {
     some = s;
     capped = omega (arith, n .capped);
     within = omega (arith, n .within);
+    on = λ i w. n .on i (back o w);
+    full = ⊎-elim (λ e. rw e (n .full)) (λ e. inr (j, o, omega (arith, n .within), n .on j here, sym e)) which;
     clear = λ δ b c. n .clear δ (omega arith) (onward o (omega arith) c);
   }
 
@@ -192,14 +202,67 @@ module _ (xs fs rs nodes vias froms : List ℕ) (last limit : ℕ) where
       let z : Clear xs fs rs nodes vias froms most 0 = start in
       n .clear most (omega arith) (rw e at z)
 
--- δ has gone from place j to place `last`, and can still go to place j
+-- of the places on the way from `last` those above j have been gone through, and `used` is the least of them whose line has nothing to spare, or `last` + 1
+pub record Used (xs fs rs nodes vias froms : List ℕ) (last used j : ℕ) : Type 0 where
+  pub some : 1 ≤ used
+  pub most : used ≤ last + 1
+  pub none : used < last + 1 → spareTo xs fs rs nodes vias froms used ≡ 0
+  pub within : j ≤ last
+  pub each : (i : ℕ) → 1 ≤ i → On froms last i → On froms j i ⊎ ((j < i) × (i < used → 1 ≤ spareTo xs fs rs nodes vias froms i))
+
+-- the first place on a way, and the way on from there
+on-first : {froms : List ℕ} {j i : ℕ} → On froms j i → (i ≡ j) ⊎ On froms (getD froms j 0) i
+on-first here = inl refl
+on-first (back o r) = inr r
+
+-- no place on a way is above its end, and the way from place 0 has no other
+on-most : {xs ys nodes vias froms : List ℕ} {count j i : ℕ} → Way xs ys nodes vias froms count → On froms j i → j < count → i ≤ j
+on-most way here b = omega arith
+on-most {j = j} way (back o r) b =
+    let less = way .parent j o b in
+    omega (arith, on-most way r (omega arith))
+
+on-none : {froms : List ℕ} {j i : ℕ} → On froms j i → j ≤ 0 → i ≤ 0
+on-none here z = z
+on-none (back o r) z = absurd (omega arith)
+
+module _ (xs fs rs nodes vias froms : List ℕ) (last : ℕ) where
+  pub used-start : Used xs fs rs nodes vias froms last (last + 1) last
+  used-start = record { some = omega arith; most = omega arith; none = λ b. absurd (omega arith); within = omega arith; each = λ i m o. inl o }
+
+  module _ {used j : ℕ} (u : Used xs fs rs nodes vias froms last used j) where
+    module _ (o : 1 ≤ j) (p : getD froms j 0 < j) where
+      pub used-spare : 1 ≤ spareTo xs fs rs nodes vias froms j → Used xs fs rs nodes vias froms last used (getD froms j 0)
+      used-spare s = record {
+        some = u .some;
+        most = u .most;
+        none = u .none;
+        within = omega (arith, u .within);
+        each = λ i m w. ⊎-elim (λ r. ⊎-elim (λ e. inr (rw e p, λ b. rw e s)) inl (on-first r)) (λ r. inr (omega (arith, r .0), r .1)) (u .each i m w);
+      }
+
+      pub used-none : spareTo xs fs rs nodes vias froms j ≡ 0 → Used xs fs rs nodes vias froms last j (getD froms j 0)
+      used-none z = record {
+        some = o;
+        most = omega (arith, u .within);
+        none = λ b. z;
+        within = omega (arith, u .within);
+        each = λ i m w. ⊎-elim (λ r. ⊎-elim (λ e. inr (rw e p, λ b. absurd (omega arith))) inl (on-first r)) (λ r. inr (omega (arith, r .0), λ b. absurd (omega (arith, r .0)))) (u .each i m w);
+      }
+
+    pub used-end : j ≤ 0 → (i : ℕ) → 1 ≤ i → On froms last i → i < used → 1 ≤ spareTo xs fs rs nodes vias froms i
+    used-end z i m w b = ⊎-elim (λ r. absurd (omega (arith, on-none r z))) (λ r. r .1 b) (u .each i m w)
+
+-- δ has gone from place j to place `last`, and can still go to place j: the lines of the way above j have lost δ, and the lines of the places up to j nothing
 pub record Going (xs ys fs₀ rs₀ nodes vias froms : List ℕ) (last δ : ℕ) (fs rs : List ℕ) (j : ℕ) : Type 0 where
   pub within : j ≤ last
   pub clear : Clear xs fs rs nodes vias froms δ j
   pub sent : Sent xs ys (getD nodes j 0) (getD nodes last 0) δ fs₀ rs₀ fs rs
-  pub others : (l u : ℕ) → (spareFrom xs fs rs l u ≡ spareFrom xs fs₀ rs₀ l u) ⊎ ((i : ℕ) × (1 ≤ i) × (i < last + 1) × (getD vias i 0 ≡ l))
-  pub wide : Clear xs fs₀ rs₀ nodes vias froms (δ + 1) last → Clear xs fs rs nodes vias froms (δ + 1) j
-  pub passable : Clear xs fs₀ rs₀ nodes vias froms (δ + 1) last → Passable xs fs₀ rs₀ nodes vias froms (last + 1) → Passable xs fs rs nodes vias froms (last + 1)
+  pub on : (i : ℕ) → On froms j i → On froms last i
+  pub ahead : (i : ℕ) → 1 ≤ i → i < j + 1 → spareTo xs fs rs nodes vias froms i ≡ spareTo xs fs₀ rs₀ nodes vias froms i
+  pub gone : (i : ℕ) → 1 ≤ i → On froms last i → On froms j i ⊎ ((j < i) × (spareTo xs fs rs nodes vias froms i + δ ≡ spareTo xs fs₀ rs₀ nodes vias froms i))
+  pub grown : (l u : ℕ) → (spareFrom xs fs rs l u ≤ spareFrom xs fs₀ rs₀ l u) ⊎ ((i : ℕ) × (1 ≤ i) × (i < last + 1) × (getD vias i 0 ≡ l) × (u ≡ getD nodes (getD froms i 0) 0 → ⊥))
+  pub lost : (i : ℕ) → 1 ≤ i → i < last + 1 → (spareTo xs fs rs nodes vias froms i ≡ spareTo xs fs₀ rs₀ nodes vias froms i) ⊎ On froms last i
 
 module _ (xs ys fs₀ rs₀ nodes vias froms : List ℕ) (last δ : ℕ) where
   pub going-start : Clear xs fs₀ rs₀ nodes vias froms δ last → Going xs ys fs₀ rs₀ nodes vias froms last δ fs₀ rs₀ last
@@ -207,17 +270,23 @@ module _ (xs ys fs₀ rs₀ nodes vias froms : List ℕ) (last δ : ℕ) where
     within = omega arith;
     clear = c;
     sent = sent-none xs ys (getD nodes last 0) δ fs₀ rs₀;
-    others = λ l u. inl refl;
-    wide = λ w. w;
-    passable = λ w p. p;
+    on = λ i o. o;
+    ahead = λ i m b. refl;
+    gone = λ i m o. inl o;
+    grown = λ l u. inl (omega arith);
+    lost = λ i m b. inl refl;
   }
 
   pub going-end : {fs rs : List ℕ} {j : ℕ} → Going xs ys fs₀ rs₀ nodes vias froms last δ fs rs j → j ≤ 0
       → Sent xs ys (getD nodes 0 0) (getD nodes last 0) δ fs₀ rs₀ fs rs
   going-end {fs} {rs} {j} g h = let e : j ≡ 0 = omega arith in rw e at (g .sent)
 
-  pub going-kept : {fs rs : List ℕ} {j : ℕ} → Going xs ys fs₀ rs₀ nodes vias froms last δ fs rs j → Kept xs nodes vias froms last δ fs₀ rs₀ fs rs
-  going-kept g = record { others = g .others; passable = g .passable }
+  pub going-kept : {fs rs : List ℕ} {j : ℕ} → Going xs ys fs₀ rs₀ nodes vias froms last δ fs rs j → j ≤ 0 → Kept xs nodes vias froms last δ fs₀ rs₀ fs rs
+  going-kept g h = record {
+    grown = g .grown;
+    lost = g .lost;
+    took = λ i m o. ⊎-elim (λ w. absurd (omega (arith, on-none w h))) (λ w. w .1) (g .gone i m o);
+  }
 
   module _ (way : Way xs ys nodes vias froms (last + 1)) {fs rs : List ℕ} {j : ℕ} (g : Going xs ys fs₀ rs₀ nodes vias froms last δ fs rs j) (o : 1 ≤ j) where
     pub going-below : j < last + 1
@@ -243,27 +312,60 @@ module _ (xs ys fs₀ rs₀ nodes vias froms : List ℕ) (last δ : ℕ) where
       line : getD vias j 0 < length xs
       line = way .line j o going-below
 
-      -- a line with more than δ to spare keeps something
-      step-passable : Clear xs fs₀ rs₀ nodes vias froms (δ + 1) last → Passable xs fs₀ rs₀ nodes vias froms (last + 1) → Passable xs forth′ back′ nodes vias froms (last + 1)
-      step-passable wide before i m b = at (ℕ-discrete i j)
+      -- out of the device that place j came from the spare over its line falls
+      falls : (l u : ℕ) → l ≡ getD vias j 0 → u ≡ getD nodes (getD froms j 0) 0 → spareFrom xs forth′ back′ l u ≤ spareFrom xs fs rs l u
+      falls l u d e = rw (d, e, spare-same xs fs rs (getD vias j 0) (getD nodes (getD froms j 0) 0) δ (omega (arith, line)) (omega (arith, line))) (omega arith)
+
+      step-grown : (l u : ℕ) → Dec (l ≡ getD vias j 0) → Dec (u ≡ getD nodes (getD froms j 0) 0)
+          → (spareFrom xs forth′ back′ l u ≤ spareFrom xs fs₀ rs₀ l u) ⊎ ((i : ℕ) × (1 ≤ i) × (i < last + 1) × (getD vias i 0 ≡ l) × (u ≡ getD nodes (getD froms i 0) 0 → ⊥))
+      step-grown l u (yes d) (yes e) = ⊎-elim (λ h. inl (omega (arith, falls l u d e))) inr (g .grown l u)
+      step-grown l u (yes d) (no n) = inr (j, o, going-below, sym d, n)
+      step-grown l u (no n) e = ⊎-elim (λ h. inl (omega (arith, elsewhere l n u))) inr (g .grown l u)
+
+      step-lost : (i : ℕ) → 1 ≤ i → i < last + 1 → Dec (i ≡ j)
+          → (spareTo xs forth′ back′ nodes vias froms i ≡ spareTo xs fs₀ rs₀ nodes vias froms i) ⊎ On froms last i
+      step-lost i m b (yes e) = inr (rw e (g .on j here))
+      step-lost i m b (no n) = ⊎-elim (λ e. inl (elsewhere (getD vias i 0) (differ i m b n) (getD nodes (getD froms i 0) 0) ∙ e)) inr (g .lost i m b)
+
+      -- the line to place j loses δ
+      step-took : spareTo xs forth′ back′ nodes vias froms j + δ ≡ spareTo xs fs₀ rs₀ nodes vias froms j
+      step-took =
+          rw (spare-same xs fs rs (getD vias j 0) (getD nodes (getD froms j 0) 0) δ (omega (arith, line)) (omega (arith, line)))
+          (omega (arith, clear-spare xs fs rs nodes vias froms δ o (g .clear), g .ahead j o (omega arith)))
+
+      step-gone : (i : ℕ) → 1 ≤ i → On froms last i
+          → On froms (getD froms j 0) i ⊎ ((getD froms j 0 < i) × (spareTo xs forth′ back′ nodes vias froms i + δ ≡ spareTo xs fs₀ rs₀ nodes vias froms i))
+      step-gone i m w = ⊎-elim (λ r. ⊎-elim at-last inl (on-first r)) before (g .gone i m w)
         where
-          at : Dec (i ≡ j) → 1 ≤ spareFrom xs forth′ back′ (getD vias i 0) (getD nodes (getD froms i 0) 0)
-          at (yes e) = rw e (rw (spare-same xs fs rs (getD vias j 0) (getD nodes (getD froms j 0) 0) δ (omega (arith, line)) (omega (arith, line))) (omega (arith, clear-spare xs fs rs nodes vias froms (δ + 1) o (g .wide wide))))
-          at (no n) = rw (elsewhere (getD vias i 0) (differ i m b n) (getD nodes (getD froms i 0) 0)) (g .passable wide before i m b)
+          at-last : i ≡ j → On froms (getD froms j 0) i ⊎ ((getD froms j 0 < i) × (spareTo xs forth′ back′ nodes vias froms i + δ ≡ spareTo xs fs₀ rs₀ nodes vias froms i))
+          at-last e = inr (omega (arith, way .parent j o going-below), rw e step-took)
 
-      step-others : (l u : ℕ) → Dec (l ≡ getD vias j 0) → (spareFrom xs forth′ back′ l u ≡ spareFrom xs fs₀ rs₀ l u) ⊎ ((i : ℕ) × (1 ≤ i) × (i < last + 1) × (getD vias i 0 ≡ l))
-      step-others l u (yes e) = inr (j, o, going-below, sym e)
-      step-others l u (no n) = ⊎-elim (λ e. inl (elsewhere l n u ∙ e)) inr (g .others l u)
+          before : (j < i) × (spareTo xs fs rs nodes vias froms i + δ ≡ spareTo xs fs₀ rs₀ nodes vias froms i)
+              → On froms (getD froms j 0) i ⊎ ((getD froms j 0 < i) × (spareTo xs forth′ back′ nodes vias froms i + δ ≡ spareTo xs fs₀ rs₀ nodes vias froms i))
+          before r = inr (omega (arith, r .0, way .parent j o going-below), rw (elsewhere (getD vias i 0) (differ i m (omega (arith, on-most way w (omega arith))) (λ e. omega (arith, r .0))) (getD nodes (getD froms i 0) 0)) (r .1))
 
-      kept : {ε : ℕ} → Clear xs fs rs nodes vias froms ε j → Clear xs forth′ back′ nodes vias froms ε (getD froms j 0)
-      kept {ε} c = clear-kept xs ys nodes vias froms (last + 1) way j going-below fs rs (getD nodes (getD froms j 0) 0) δ (way .parent j o going-below) (clear-rest xs fs rs nodes vias froms ε o c)
+      step-ahead : (i : ℕ) → 1 ≤ i → i < getD froms j 0 + 1 → spareTo xs forth′ back′ nodes vias froms i ≡ spareTo xs fs₀ rs₀ nodes vias froms i
+      step-ahead i m b =
+          let less : i < j = omega (arith, way .parent j o going-below) in
+          elsewhere (getD vias i 0) (differ i m (omega (arith, g .within)) (λ e. omega arith)) (getD nodes (getD froms i 0) 0) ∙ g .ahead i m (omega arith)
+
+      clear-on : {ε : ℕ} → Clear xs fs rs nodes vias froms ε j → Clear xs forth′ back′ nodes vias froms ε (getD froms j 0)
+      clear-on {ε} c = clear-kept xs ys nodes vias froms (last + 1) way j going-below fs rs (getD nodes (getD froms j 0) 0) δ (way .parent j o going-below) (clear-rest xs fs rs nodes vias froms ε o c)
 
       pub going-step : Going xs ys fs₀ rs₀ nodes vias froms last δ forth′ back′ (getD froms j 0)
       going-step = record {
         within = omega (arith, g .within, way .parent j o going-below);
-        clear = kept (g .clear);
+        clear = clear-on (g .clear);
         sent = sent-on xs ys (g .sent) (rw (way .reaches j o going-below) at (over-sent xs fs rs (getD vias j 0) (getD nodes (getD froms j 0) 0) δ ys line (omega (arith, line)) (omega (arith, line)) (way .leaves j o going-below) (clear-spare xs fs rs nodes vias froms δ o (g .clear))));
-        others = λ l u. step-others l u (ℕ-discrete l (getD vias j 0));
-        wide = λ w. kept (g .wide w);
-        passable = step-passable;
+        on = λ i w. g .on i (back o w);
+        ahead = step-ahead;
+        gone = step-gone;
+        grown = λ l u. step-grown l u (ℕ-discrete l (getD vias j 0)) (ℕ-discrete u (getD nodes (getD froms j 0) 0));
+        lost = λ i m b. step-lost i m b (ℕ-discrete i j);
       }
+
+-- where every line of the way has something to spare after the most that could go went along it, that was the limit
+pub kept-full : {xs nodes vias froms : List ℕ} {last δ : ℕ} {fs rs fs′ rs′ : List ℕ} → Kept xs nodes vias froms last δ fs rs fs′ rs′ → (limit : ℕ)
+    → (δ ≡ limit) ⊎ ((i : ℕ) × (1 ≤ i) × (i < last + 1) × On froms last i × (spareTo xs fs rs nodes vias froms i ≡ δ))
+    → ((i : ℕ) → 1 ≤ i → On froms last i → i < last + 1 → 1 ≤ spareTo xs fs′ rs′ nodes vias froms i) → δ ≡ limit
+kept-full kept limit full some = ⊎-elim (λ e. e) (λ w. absurd (omega (arith, some (w .0) (w .1) (w .3) (w .2), kept .took (w .0) (w .1) (w .3), w .4))) full

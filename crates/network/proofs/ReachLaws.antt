@@ -13,7 +13,7 @@ use lib.ListN.{length, getD, set, replicate, length-replicate, getD-replicate}
 use lib.Seq.{getD-set-same, getD-set-other}
 use Rattle.rules.specs.Numbers.{sum}
 use Rattle.rules.proofs.SumLaws.{sum-most, sum-change, sum-one}
-use Rattle.network.specs.Search.{spareFrom, farEnd, touches, Laid, Before, Tree, Covered, Scan, Found, Rest, Standing}
+use Rattle.network.specs.Search.{spareFrom, farEnd, touches, Laid, Before, Earliest, Marks, Tree, Covered, Scan, Found, Rest, Standing}
 
 -- the two sides of a question on numbers
 same-or-not : (i j : ℕ) → (i ≡ j) ⊎ (i ≡ j → ⊥)
@@ -52,6 +52,37 @@ module _ {xs ys fs rs : List ℕ} {d : ℕ} {nodes vias froms marks : List ℕ} 
   pub mark-one : (v : ℕ) → v < 128 → (getD marks v 0 ≡ 0 → ⊥) → getD marks v 0 ≡ 1
   mark-one v m h = ⊎-elim (λ e. absurd (h e)) (λ e. e) (mark-or-none v m)
 
+  -- what is marked stands in the queue
+  mark-place : (v : ℕ) → v < 128 → getD marks v 0 ≡ 1 → (j : ℕ) × (j < count) × (getD nodes j 0 ≡ v)
+  mark-place v m e = ⊎-elim (λ z. absurd (omega arith)) (λ w. w) (tree .listed v m)
+
+  pub tree-marks : Marks nodes marks count
+  tree-marks = record { once = tree .way .once; device = tree .device; marked = tree .marked; listed = tree .listed; counted = tree .counted }
+
+-- ---- a queue shorter by its last device
+module _ {nodes marks : List ℕ} (j : ℕ) (all : Marks nodes marks (j + 1)) (size : length marks ≡ 128) where
+  last-device : getD nodes j 0 < 128
+  last-device = all .device j (omega arith)
+
+  -- the other marks stay
+  unmark-stays : (v : ℕ) → (v ≡ getD nodes j 0 → ⊥) → getD (set marks (getD nodes j 0) 0) v 0 ≡ getD marks v 0
+  unmark-stays v n = getD-set-other marks (getD nodes j 0) v 0 0 n
+
+  unmark-last : getD (set marks (getD nodes j 0) 0) (getD nodes j 0) 0 ≡ 0
+  unmark-last = getD-set-same marks (getD nodes j 0) 0 0 (rw size last-device)
+
+  pub marks-less : Marks nodes (set marks (getD nodes j 0) 0) j
+  marks-less = record {
+    once = λ a b m n. all .once a b (omega arith) (omega arith);
+    device = λ i m. all .device i (omega arith);
+    marked = λ i m. unmark-stays (getD nodes i 0) (λ e. omega (arith, all .once i j (omega arith) (omega arith) e)) ∙ all .marked i (omega arith);
+    listed = λ v m. ⊎-elim (λ e. inl (rw e unmark-last)) (λ n. ⊎-elim (λ e. inl (unmark-stays v n ∙ e)) (λ w. inr (before v n w)) (all .listed v m)) (same-or-not v (getD nodes j 0));
+    counted = omega (arith, sum-change 128 (λ v. getD marks v 0) (λ v. getD (set marks (getD nodes j 0) 0) v 0) (getD nodes j 0) last-device (λ v m n. unmark-stays v n), all .counted, all .marked j (omega arith), unmark-last);
+  }
+    where
+      before : (v : ℕ) → (v ≡ getD nodes j 0 → ⊥) → ((i : ℕ) × (i < j + 1) × (getD nodes i 0 ≡ v)) → (i : ℕ) × (i < j) × (getD nodes i 0 ≡ v)
+      before v n w = ⊎-elim (λ b. (w .0, b, w .2)) (λ e. absurd (n (sym (w .2) ∙ rw e))) (last-or-before (w .0) j (w .1))
+
 -- ---- a search that has found a device with drain left, or can go on
 pub record Ready (xs ys fs rs ws : List ℕ) (d : ℕ) (nodes vias froms marks : List ℕ) (found : Bool) (count h rest : ℕ) : Type 0 where
   pub none : found ≡ false → Standing xs ys fs rs ws d nodes vias froms marks count h rest
@@ -87,6 +118,7 @@ module _ (xs ys fs rs : List ℕ) (d : ℕ) (nodes vias froms marks : List ℕ) 
     marked = λ j l. rw (first-only j l) (marked d device ∙ rw (eq-eqb d d refl));
     listed = λ v m. ⊎-elim (λ e. inr (0, omega arith, root ∙ sym e)) (λ h. inl (marked v m ∙ rw (ne-eqb v d h))) (same-or-not v d);
     counted = sym (sum-one 128 (λ v. getD marks v 0) d device marked);
+    order = λ j m l. absurd (omega arith);
   }
 
   covered-begin : (k : ℕ) → ((l : ℕ) → k ≤ l → l < length xs → touches xs ys l d ≡ false) → Covered xs ys fs rs d nodes vias froms marks 1 0 k
@@ -215,8 +247,36 @@ module _ {xs ys fs rs : List ℕ} {d : ℕ} {nodes vias froms marks : List ℕ} 
         (λ n. ⊎-elim (λ e. inl (mark-stays v n ∙ e)) (λ q. inr (q .0, omega arith, stays nodes w (q .0) (q .1) ∙ q .2)) (tree .listed v m))
         (same-or-not v w)
 
-    pub tree-more : Tree xs ys fs rs d (set nodes count w) (set vias count l) (set froms count h) (set marks w 1) (count + 1)
-    tree-more = record {
+    -- a place that was filled as soon as it could be still is
+    earliest-stays : {j i k : ℕ} → j < count + 1 → i < j → Earliest xs ys fs rs nodes j i k → Earliest xs ys fs rs (set nodes count w) j i k
+    earliest-stays {j} {i} b c order = record {
+      shut = λ p m. rw (stays nodes w p (omega arith)) (λ k n t r. at (order .shut p m k n t r));
+      here = rw (stays nodes w i (omega arith)) (λ k m n t r. at (order .here k m n t r));
+    }
+      where
+        at : {v : ℕ} → ((p : ℕ) × (p < j) × (getD nodes p 0 ≡ v)) → (p : ℕ) × (p < j) × (getD (set nodes count w) p 0 ≡ v)
+        at q = (q .0, q .1, stays nodes w (q .0) (omega (arith, q .1)) ∙ q .2)
+
+    -- the new place is filled as soon as it can be
+    earliest-new : Covered xs ys fs rs d nodes vias froms marks count h (l + 1) → Earliest xs ys fs rs nodes count h l
+    earliest-new before = record {
+      shut = λ p m k n t r. mark-place tree _ (far-device k (getD nodes p 0) laid n) (before .shut p m k n t r);
+      here = λ k m n t r. mark-place tree _ (far-device k (getD nodes h 0) laid n) (before .here (leads .place) k (omega arith) n t r);
+    }
+
+    order-more : Covered xs ys fs rs d nodes vias froms marks count h (l + 1)
+        → (j : ℕ) → 1 ≤ j → j < count + 1 → Earliest xs ys fs rs (set nodes count w) j (getD (set froms count h) j 0) (getD (set vias count l) j 0)
+    order-more covered j m n = ⊎-elim before last (last-or-before j count n)
+      where
+        before : j < count → Earliest xs ys fs rs (set nodes count w) j (getD (set froms count h) j 0) (getD (set vias count l) j 0)
+        before b = rw (stays froms h j b, stays vias l j b) (earliest-stays n (tree .way .parent j m b) (tree .order j m b))
+
+        last : j ≡ count → Earliest xs ys fs rs (set nodes count w) j (getD (set froms count h) j 0) (getD (set vias count l) j 0)
+        last e = rw e (rw (comes froms h from-size, comes vias l via-size) (earliest-stays (omega arith) (leads .place) (earliest-new covered)))
+
+    tree-more : Covered xs ys fs rs d nodes vias froms marks count h (l + 1)
+        → Tree xs ys fs rs d (set nodes count w) (set vias count l) (set froms count h) (set marks w 1) (count + 1)
+    tree-more before = record {
       way = record {
         parent = λ j m n. came j m n .parent;
         line = λ j m n. came j m n .line;
@@ -231,13 +291,14 @@ module _ {xs ys fs rs : List ℕ} {d : ℕ} {nodes vias froms marks : List ℕ} 
       marked = each (λ v. getD (set marks w 1) v 0 ≡ 1) (λ j m. mark-grows (getD nodes j 0) (tree .marked j m)) mark-new;
       listed = all-listed;
       counted = marks-counted;
+      order = order-more before;
     }
 
     -- a search goes on over line l, by which w is reached: it has drain left, or none
     covered-more : Covered xs ys fs rs d nodes vias froms marks count h (l + 1)
         → Covered xs ys fs rs d (set nodes count w) (set vias count l) (set froms count h) (set marks w 1) (count + 1) h l
     covered-more before = record {
-      tree = tree-more;
+      tree = tree-more before;
       place = omega (arith, leads .place);
       shut = λ j m. rw (stays nodes w j (omega (arith, leads .place))) (λ k n t r. mark-grows _ (before .shut j m k n t r));
       here = λ o. rw (stays nodes w h (leads .place)) (λ k m n t r. ⊎-elim (λ q. rw (← q) (rw (leads .reaches) mark-new)) (λ q. mark-grows _ (before .here (leads .place) k (omega arith) n t r)) (same-or-not l k));

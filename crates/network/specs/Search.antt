@@ -12,6 +12,12 @@ use Rattle.rules.specs.Plant.{linesOf}
 use Rattle.rules.specs.Cut.{Devices}
 use Rattle.rules.specs.Numbers.{sum}
 use Rattle.rules.specs.Network.{netCost}
+use Rattle.network.specs.Calls.{Network}
+
+-- a network with a start
+pub record Started (k : ℕ) (xs ys zs ds : List ℕ) (start : ℕ) : Type 0 where
+  pub network : Network k xs ys zs ds
+  pub node : start < k
 
 -- what can leave a set over one line: its forth where only the first end is in the set, its back where only the second is
 unfoldable pub passing : Bool → Bool → ℕ → ℕ → ℕ
@@ -69,11 +75,33 @@ pub record Way (xs ys nodes vias froms : List ℕ) (count : ℕ) : Type 0 where
   pub reaches : (j : ℕ) → 1 ≤ j → j < count → farEnd xs ys (getD vias j 0) (getD nodes (getD froms j 0) 0) ≡ getD nodes j 0
   pub once : (i j : ℕ) → i < count → j < count → getD nodes i 0 ≡ getD nodes j 0 → i ≡ j
 
+-- what can still go over the line by which place j came, out of the device that it came from
+abbrev pub spareTo : List ℕ → List ℕ → List ℕ → List ℕ → List ℕ → List ℕ → ℕ → ℕ
+spareTo xs fs rs nodes vias froms j = spareFrom xs fs rs (getD vias j 0) (getD nodes (getD froms j 0) 0)
+
 -- each came over a line with something to spare
 abbrev pub Passable : List ℕ → List ℕ → List ℕ → List ℕ → List ℕ → List ℕ → ℕ → Type 0
-Passable xs fs rs nodes vias froms count = (j : ℕ) → 1 ≤ j → j < count → 1 ≤ spareFrom xs fs rs (getD vias j 0) (getD nodes (getD froms j 0) 0)
+Passable xs fs rs nodes vias froms count = (j : ℕ) → 1 ≤ j → j < count → 1 ≤ spareTo xs fs rs nodes vias froms j
 
--- the tree that a search from d has reached: the devices of the queue are those marked 1, and all others are marked 0
+-- what line l of device u leads to stands at a place below j, if it has something to spare
+abbrev pub Within : List ℕ → List ℕ → List ℕ → List ℕ → List ℕ → ℕ → ℕ → ℕ → Type 0
+Within xs ys fs rs nodes j u l =
+    touches xs ys l u ≡ true → 1 ≤ spareFrom xs fs rs l u → (p : ℕ) × (p < j) × (getD nodes p 0 ≡ farEnd xs ys l u)
+
+-- place j of a queue is filled from place i over line k, and not before: every line of the devices at places below i, and those lines of the device at i that are above k, lead to places below j
+pub record Earliest (xs ys fs rs nodes : List ℕ) (j i k : ℕ) : Type 0 where
+  pub shut : (p : ℕ) → p < i → (l : ℕ) → l < length xs → Within xs ys fs rs nodes j (getD nodes p 0) l
+  pub here : (l : ℕ) → k < l → l < length xs → Within xs ys fs rs nodes j (getD nodes i 0) l
+
+-- the devices of a queue are those marked 1, and all others are marked 0
+pub record Marks (nodes marks : List ℕ) (count : ℕ) : Type 0 where
+  pub once : (i j : ℕ) → i < count → j < count → getD nodes i 0 ≡ getD nodes j 0 → i ≡ j
+  pub device : (j : ℕ) → j < count → getD nodes j 0 < 128
+  pub marked : (j : ℕ) → j < count → getD marks (getD nodes j 0) 0 ≡ 1
+  pub listed : (v : ℕ) → v < 128 → (getD marks v 0 ≡ 0) ⊎ ((j : ℕ) × (j < count) × (getD nodes j 0 ≡ v))
+  pub counted : count ≡ sum 128 (λ v. getD marks v 0)
+
+-- the tree that a search from d has reached: the devices of the queue are those marked 1, and all others are marked 0; each place was filled as soon as it could be
 pub record Tree (xs ys fs rs : List ℕ) (d : ℕ) (nodes vias froms marks : List ℕ) (count : ℕ) : Type 0 where
   pub way : Way xs ys nodes vias froms count
   pub passable : Passable xs fs rs nodes vias froms count
@@ -83,6 +111,7 @@ pub record Tree (xs ys fs rs : List ℕ) (d : ℕ) (nodes vias froms marks : Lis
   pub marked : (j : ℕ) → j < count → getD marks (getD nodes j 0) 0 ≡ 1
   pub listed : (v : ℕ) → v < 128 → (getD marks v 0 ≡ 0) ⊎ ((j : ℕ) × (j < count) × (getD nodes j 0 ≡ v))
   pub counted : count ≡ sum 128 (λ v. getD marks v 0)
+  pub order : (j : ℕ) → 1 ≤ j → j < count → Earliest xs ys fs rs nodes j (getD froms j 0) (getD vias j 0)
 
 -- what line l of device u leads to is marked, if it has something to spare
 abbrev pub Shut : List ℕ → List ℕ → List ℕ → List ℕ → List ℕ → ℕ → ℕ → Type 0
@@ -130,8 +159,13 @@ pub record Led (xs ys fs rs ws : List ℕ) (d : ℕ) (nodes vias froms : List �
 -- on the way back from place j to place 0 at least δ can go over each line
 pub data Clear (xs fs rs nodes vias froms : List ℕ) (δ : ℕ) : ℕ → Type 0 where
   start : Clear xs fs rs nodes vias froms δ 0
-  onward : {j : ℕ} → 1 ≤ j → δ ≤ spareFrom xs fs rs (getD vias j 0) (getD nodes (getD froms j 0) 0)
+  onward : {j : ℕ} → 1 ≤ j → δ ≤ spareTo xs fs rs nodes vias froms j
       → Clear xs fs rs nodes vias froms δ (getD froms j 0) → Clear xs fs rs nodes vias froms δ j
+
+-- place i lies on the way back from place j to place 0
+pub data On (froms : List ℕ) : ℕ → ℕ → Type 0 where
+  here : {j : ℕ} → On froms j j
+  back : {j i : ℕ} → 1 ≤ j → On froms (getD froms j 0) i → On froms j i
 
 -- forth and back of the lines after δ has gone over line l out of device u
 unfoldable pub forthAfter : List ℕ → List ℕ → ℕ → ℕ → ℕ → List ℕ
@@ -145,10 +179,11 @@ pub record Sent (xs ys : List ℕ) (d e δ : ℕ) (fs rs fs′ rs′ : List ℕ)
   pub kept : (l : ℕ) → l < length xs → getD fs′ l 0 + getD rs′ l 0 ≡ getD fs l 0 + getD rs l 0
   pub moved : (T : Devices) → linesLeave xs ys fs′ rs′ T + cond (T d) δ 0 ≡ linesLeave xs ys fs rs T + cond (T e) δ 0
 
--- what δ that went along the way to place `last` of a queue left of the spares: no spare has changed but on the lines of the queue; and where the way had more than δ to spare, each line of the queue still has something to spare
+-- what δ that went along the way to place `last` of a queue left of the spares: a spare grew only over a line by which a place of the queue came, and not out of the device that it came from; the line of a place lost something only where the place lies on the way, and there it lost δ
 pub record Kept (xs nodes vias froms : List ℕ) (last δ : ℕ) (fs rs fs′ rs′ : List ℕ) : Type 0 where
-  pub others : (l u : ℕ) → (spareFrom xs fs′ rs′ l u ≡ spareFrom xs fs rs l u) ⊎ ((j : ℕ) × (1 ≤ j) × (j < last + 1) × (getD vias j 0 ≡ l))
-  pub passable : Clear xs fs rs nodes vias froms (δ + 1) last → Passable xs fs rs nodes vias froms (last + 1) → Passable xs fs′ rs′ nodes vias froms (last + 1)
+  pub grown : (l u : ℕ) → (spareFrom xs fs′ rs′ l u ≤ spareFrom xs fs rs l u) ⊎ ((j : ℕ) × (1 ≤ j) × (j < last + 1) × (getD vias j 0 ≡ l) × (u ≡ getD nodes (getD froms j 0) 0 → ⊥))
+  pub lost : (j : ℕ) → 1 ≤ j → j < last + 1 → (spareTo xs fs′ rs′ nodes vias froms j ≡ spareTo xs fs rs nodes vias froms j) ⊎ On froms last j
+  pub took : (j : ℕ) → 1 ≤ j → On froms last j → spareTo xs fs′ rs′ nodes vias froms j + δ ≡ spareTo xs fs rs nodes vias froms j
 
 -- what is still to go and what has been sent, of the network with the lines xs, ys of the widths zs and the drains ds: each set that holds the start costs what has been sent and what can still leave it
 pub record Spares (k : ℕ) (xs ys zs ds : List ℕ) (start : ℕ) (fs rs ws : List ℕ) : Type 0 where

@@ -5,7 +5,7 @@ ghost use mathlib.Core.Path.{_≡_};
 ghost use mathlib.Core.Bool.{true, false};
 ghost use Prim.Native.Nat.{ℕ, _≤_, _<_, _^_};
 ghost use lib.ListN.{length, getD};
-ghost use Rattle.network.specs.Calls.{Network, LineFits};
+ghost use Rattle.network.specs.Calls.{LineFits, Taken};
 
 // The most that a width or a drain can be: 2⁵⁰, so that no sum of them wraps.
 pub const WIDEST: usize = 1125899906842624;
@@ -48,18 +48,18 @@ fn drains_fit(k: usize, drains: &[usize]) -> bool
     true
 }
 
-// Whether it is a network with room for its marks.
+// Whether it is a network, with an entry in both lists for each of its nodes.
 pub fn fits(
     k: usize,
     firsts: &[usize],
     seconds: &[usize],
     widths: &[usize],
     drains: &[usize],
-    start: usize,
+    wanteds: usize,
     room: usize,
 ) -> bool
-    ensures { λ r. ⌜ (r ≡ true → Network k (now (firsts .entry)) (now (seconds .entry)) (now (widths .entry)) (now (drains .entry)) start room) ⌝ }
-    ensures { λ r. ⌜ (r ≡ false → Network k (now (firsts .entry)) (now (seconds .entry)) (now (widths .entry)) (now (drains .entry)) start room → ⊥) ⌝ }
+    ensures { λ r. ⌜ (r ≡ true → Taken k (now (firsts .entry)) (now (seconds .entry)) (now (widths .entry)) (now (drains .entry)) wanteds room) ⌝ }
+    ensures { λ r. ⌜ (r ≡ false → Taken k (now (firsts .entry)) (now (seconds .entry)) (now (widths .entry)) (now (drains .entry)) wanteds room → ⊥) ⌝ }
 {
     let lines = firsts.len();
     if DEVICES < k {
@@ -77,7 +77,7 @@ pub fn fits(
     if drains.len() < k {
         return false;
     }
-    if k <= start {
+    if wanteds < k {
         return false;
     }
     if room < k {

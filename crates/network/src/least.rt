@@ -1,10 +1,12 @@
 // The least set of a network that holds its start: ways are sent along until none is left, and what can then be reached is the set.
-use crate::judge::WIDEST;
+use crate::index::line_before;
+use crate::path::first_used;
 use crate::path::narrowest;
 use crate::path::send;
 use crate::reach::Front;
 use crate::reach::put;
 use crate::reach::search;
+use crate::reach::unmark;
 use rules::DEVICES;
 use rules::LINES;
 ghost use mathlib.Core.Path.{_≡_};
@@ -16,8 +18,7 @@ ghost use Prim.Native.Nat.{ℕ, _+_, _≤_, _<_, _^_};
 ghost use Rattle.rules.specs.Plant.{linesOf};
 ghost use Rattle.rules.specs.Network.{IsLeast};
 ghost use Rattle.rules.specs.Numbers.{sum};
-ghost use Rattle.network.specs.Calls.{Network};
-ghost use Rattle.network.specs.Search.{Laid, Lasts, Priors, Led, Scan, Found, Standing, Spares};
+ghost use Rattle.network.specs.Search.{Started, Laid, Lasts, Priors, Led, Marks, Scan, Found, Standing, Spares};
 
 // Each line has its width to spare, both ways.
 fn open_lines(widths: &[usize], forth: &mut [usize], back: &mut [usize])
@@ -46,17 +47,8 @@ fn open_drains(k: usize, drains: &[usize], drain: &mut [usize])
     }
 }
 
-// The lesser of two numbers.
-fn lesser(a: usize, b: usize) -> usize
-    ensures { λ r. ⌜ (r ≤ a) × (r ≤ b) × (a ≤ b → r ≡ a) × (1 ≤ a → 1 ≤ b → 1 ≤ r) ⌝ }
-{
-    if a <= b {
-        return a;
-    }
-    b
-}
-
-// As much as can go along the way that was found is sent. It is answered whether that left something to spare on every line of the way.
+// As much as can go along the way that was found is sent. It is answered how many places of the queue can stay: those before the first
+// of the way whose line has nothing to spare any more.
 fn advance(
     firsts: &[usize],
     seconds: &[usize],
@@ -67,7 +59,7 @@ fn advance(
     via: &[usize; DEVICES],
     from: &[usize; DEVICES],
     count: usize,
-) -> bool
+) -> usize
     requires { ⌜ Laid (now firsts) (now seconds) ⌝ }
     requires { ⌜ Led (now firsts) (now seconds) (now forth) (now back) (now drain) (getD (now node) 0 0) (now node) (now via) (now from) count ⌝ }
     requires { ⌜ ((l : ℕ) → l < length (now firsts) → getD (now forth) l 0 + getD (now back) l 0 < 2 ^ 63) ⌝ }
@@ -75,22 +67,26 @@ fn advance(
     ensures { λ _. ⌜ ((k : ℕ) (zs ds : List ℕ) → ((j : ℕ) → j < count → getD (now (node .entry)) j 0 < k)
         → Spares k (now (firsts .entry)) (now (seconds .entry)) zs ds (getD (now (node .entry)) 0 0) (now (forth .entry)) (now (back .entry)) (now (drain .entry))
         → Spares k (now (firsts .entry)) (now (seconds .entry)) zs ds (getD (now (node .entry)) 0 0) (now (forth .exit)) (now (back .exit)) (now (drain .exit))) ⌝ }
-    ensures { λ r. ⌜ (r ≡ true → (marks : List ℕ) (h k : ℕ)
+    ensures { λ r. ⌜ (1 ≤ r) × (r ≤ count) ⌝ }
+    ensures { λ r. ⌜ (r ≡ count → (marks : List ℕ) (h k : ℕ)
         → Found (now (firsts .entry)) (now (seconds .entry)) (now (forth .entry)) (now (back .entry)) (now (drain .entry)) (getD (now (node .entry)) 0 0) (now (node .entry)) (now (via .entry)) (now (from .entry)) marks count h k
         → Scan (now (firsts .entry)) (now (seconds .entry)) (now (forth .exit)) (now (back .exit)) (now (drain .exit)) (getD (now (node .entry)) 0 0) (now (node .entry)) (now (via .entry)) (now (from .entry)) marks count h k) ⌝ }
+    ensures { λ r. ⌜ (r < count → (marks marks′ : List ℕ) (h k : ℕ)
+        → Found (now (firsts .entry)) (now (seconds .entry)) (now (forth .entry)) (now (back .entry)) (now (drain .entry)) (getD (now (node .entry)) 0 0) (now (node .entry)) (now (via .entry)) (now (from .entry)) marks count h k
+        → Marks (now (node .entry)) marks′ r
+        → Scan (now (firsts .entry)) (now (seconds .entry)) (now (forth .exit)) (now (back .exit)) (now (drain .exit)) (getD (now (node .entry)) 0 0) (now (node .entry)) (now (via .entry)) (now (from .entry)) marks′ r (getD (now (from .entry)) r 0) (getD (now (via .entry)) r 0)) ⌝ }
 {
     let end = count - 1;
     let v = node[end];
     let most = drain[v];
-    let narrow = narrowest(firsts, forth, back, node, via, from, end, WIDEST + 1);
-    let amount = lesser(most, narrow);
+    let amount = narrowest(firsts, forth, back, node, via, from, end, most);
     send(firsts, seconds, forth, back, node, via, from, end, amount);
     put(drain, v, most - amount);
-    most < narrow
+    first_used(firsts, forth, back, node, via, from, end)
 }
 
 // One round: the search goes on, and where it finds a node with drain left, as much as can go there is sent. Where that used up a line,
-// the queue is given up: the next round begins anew.
+// the queue is cut back to before the first place that came by such a line, and the next round goes on behind that line.
 fn round(
     firsts: &[usize],
     seconds: &[usize],
@@ -116,7 +112,7 @@ fn round(
     ensures { λ r. ⌜ (r .found ≡ false → Scan (now (firsts .entry)) (now (seconds .entry)) (now (forth .exit)) (now (back .exit)) (now (drain .exit)) start (now (node .exit)) (now (via .exit)) (now (from .exit)) (now (mark .exit)) (r .count) (r .count) (length (now (firsts .entry)))) ⌝ }
     ensures { λ r. ⌜ (r .found ≡ true → 1 ≤ r .count → Standing (now (firsts .entry)) (now (seconds .entry)) (now (forth .exit)) (now (back .exit)) (now (drain .exit)) start (now (node .exit)) (now (via .exit)) (now (from .exit)) (now (mark .exit)) (r .count) (r .place) (r .rest)) ⌝ }
     ensures { λ r. ⌜ sum 128 (λ v. getD (now (drain .exit)) v 0) + cond (r .found) 1 0 ≤ sum 128 (λ v. getD (now (drain .entry)) v 0) ⌝ }
-    ensures { λ _. ⌜ ((k room : ℕ) (zs ds : List ℕ) → Network k (now (firsts .entry)) (now (seconds .entry)) zs ds start room
+    ensures { λ _. ⌜ ((k : ℕ) (zs ds : List ℕ) → Started k (now (firsts .entry)) (now (seconds .entry)) zs ds start
         → Spares k (now (firsts .entry)) (now (seconds .entry)) zs ds start (now (forth .entry)) (now (back .entry)) (now (drain .entry))
         → Spares k (now (firsts .entry)) (now (seconds .entry)) zs ds start (now (forth .exit)) (now (back .exit)) (now (drain .exit))) ⌝ }
 {
@@ -142,14 +138,19 @@ fn round(
         return reached;
     }
     let count = reached.count;
-    if advance(firsts, seconds, forth, back, drain, node, via, from, count) {
+    let cut = advance(firsts, seconds, forth, back, drain, node, via, from, count);
+    if cut == count {
         return reached;
     }
+    unmark(node, mark, cut, count);
+    let place = from[cut];
+    let u = node[place];
+    let rest = line_before(firsts, seconds, before_first, before_second, u, via[cut]);
     Front {
-        count: 0,
+        count: cut,
         found: true,
-        place: 0,
-        rest: 0,
+        place,
+        rest,
     }
 }
 
@@ -166,7 +167,7 @@ pub fn least(
     before_second: &[usize; LINES],
     mark: &mut [u8; DEVICES],
 )
-    requires { ⌜ Network k (now firsts) (now seconds) (now widths) (now drains) start k ⌝ }
+    requires { ⌜ Started k (now firsts) (now seconds) (now widths) (now drains) start ⌝ }
     requires { ⌜ Lasts (now firsts) (now seconds) (length (now firsts)) (now last) ⌝ }
     requires { ⌜ Priors (now firsts) (now seconds) (length (now firsts)) (now «before_first») (now «before_second») ⌝ }
     ensures { λ _. ⌜ IsLeast (linesOf (now (firsts .entry)) (now (seconds .entry)) (now (widths .entry))) (λ v. getD (now (drains .entry)) v 0) k start (λ v. eqb (getD (now (mark .exit)) v 0) 1) ⌝ }

@@ -4,8 +4,9 @@ use rules::DEVICES;
 use rules::LINES;
 ghost use lib.ListN.{length, getD};
 ghost use mathlib.Core.Path.{_≡_};
+ghost use mathlib.Core.Logic.{_⊎_};
 ghost use Prim.Native.Nat.{ℕ, _+_, _≤_, _<_, _^_};
-ghost use Rattle.network.specs.Search.{Laid, Way, Passable, Clear, Sent, Kept, spareFrom, forthAfter, backAfter};
+ghost use Rattle.network.specs.Search.{Laid, Way, Passable, Clear, On, Sent, Kept, spareFrom, spareTo, forthAfter, backAfter};
 
 // The most that can go from place 0 to place `end`, and no more than `limit`.
 pub fn narrowest(
@@ -22,6 +23,7 @@ pub fn narrowest(
     requires { ⌜ ((j : ℕ) → 1 ≤ j → j < end + 1 → (getD (now from) j 0 < j) × (getD (now via) j 0 < length (now firsts))) ⌝ }
     requires { ⌜ Passable (now firsts) (now forth) (now back) (now node) (now via) (now from) (end + 1) ⌝ }
     ensures { λ r. ⌜ (1 ≤ r) × (r ≤ limit) ⌝ }
+    ensures { λ r. ⌜ (r ≡ limit) ⊎ ((j : ℕ) × (1 ≤ j) × (j < end + 1) × On (now (from .entry)) end j × (spareTo (now (firsts .entry)) (now (forth .entry)) (now (back .entry)) (now (node .entry)) (now (via .entry)) (now (from .entry)) j ≡ r)) ⌝ }
     ensures { λ r. ⌜ Clear (now (firsts .entry)) (now (forth .entry)) (now (back .entry)) (now (node .entry)) (now (via .entry)) (now (from .entry)) r end ⌝ }
 {
     let mut most = limit;
@@ -89,4 +91,33 @@ pub fn send(
         send_over(firsts, forth, back, via[j], node[i], amount);
         j = i;
     }
+}
+
+// The least place on the way to place `end` whose line has nothing to spare, or `end` + 1 where there is none.
+pub fn first_used(
+    firsts: &[usize],
+    forth: &[usize; LINES],
+    back: &[usize; LINES],
+    node: &[usize; DEVICES],
+    via: &[usize; DEVICES],
+    from: &[usize; DEVICES],
+    end: usize,
+) -> usize
+    requires { ⌜ (length (now firsts) ≤ 1024) × (end < 128) ⌝ }
+    requires { ⌜ ((j : ℕ) → 1 ≤ j → j < end + 1 → (getD (now from) j 0 < j) × (getD (now via) j 0 < length (now firsts))) ⌝ }
+    ensures { λ r. ⌜ (1 ≤ r) × (r ≤ end + 1) ⌝ }
+    ensures { λ r. ⌜ (r < end + 1 → spareTo (now (firsts .entry)) (now (forth .entry)) (now (back .entry)) (now (node .entry)) (now (via .entry)) (now (from .entry)) r ≡ 0) ⌝ }
+    ensures { λ r. ⌜ ((j : ℕ) → 1 ≤ j → On (now (from .entry)) end j → j < r → 1 ≤ spareTo (now (firsts .entry)) (now (forth .entry)) (now (back .entry)) (now (node .entry)) (now (via .entry)) (now (from .entry)) j) ⌝ }
+{
+    let mut used = end + 1;
+    let mut j = end;
+    while 0 < j {
+        let i = from[j];
+        let spare = spare_from(firsts, forth, back, via[j], node[i]);
+        if spare == 0 {
+            used = j;
+        }
+        j = i;
+    }
+    used
 }

@@ -8,7 +8,7 @@ ghost use mathlib.Core.Path.{_≡_};
 ghost use mathlib.Core.Bool.{true, false, cond};
 ghost use lib.Dec.{eqb};
 ghost use Prim.Native.Nat.{ℕ, _+_, _≤_, _<_};
-ghost use Rattle.network.specs.Search.{Laid, Lasts, Priors, Scan, Found, Rest, Standing, touches, farEnd, spareFrom};
+ghost use Rattle.network.specs.Search.{Laid, Lasts, Priors, Marks, Scan, Found, Rest, Standing, touches, farEnd, spareFrom};
 
 // How many devices stand in the queue, and whether the last of them has drain left.
 struct Seen {
@@ -66,6 +66,20 @@ fn tick(mark: &mut [u8], v: usize)
     ensures { λ _. ⌜ now (mark .exit) ≡ set (now (mark .entry)) v 1 ⌝ }
 {
     mark[v] = 1;
+}
+
+// The devices from place `cut` on are no longer reached.
+pub fn unmark(node: &[usize; DEVICES], mark: &mut [u8], cut: usize, count: usize)
+    requires { ⌜ (cut ≤ count) × (count ≤ 128) × (length (now mark) ≡ 128) ⌝ }
+    requires { ⌜ Marks (now node) (now mark) count ⌝ }
+    ensures { λ _. ⌜ Marks (now (node .entry)) (now (mark .exit)) cut ⌝ }
+{
+    let mut j = count;
+    while cut < j {
+        j -= 1;
+        let v = node[j];
+        mark[v] = 0;
+    }
 }
 
 // Line l of the device at place h is looked at: what it leads to is reached.

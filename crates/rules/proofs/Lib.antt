@@ -24,9 +24,8 @@
 --     Instance      the communities at a rate are such a family; the laws of groups for all positive fractions
 --     LevelLaws     two group lists of one plant, and their numbers of groups
 --     UnionLaws     the community of a group's own device at a lower rate is a union of groups
---     NetworkLaws   a network's least set is the only one; sums over nodes
---     ContractLaws  a network whose nodes are sets of devices: what a set of nodes costs, and its least set
---     FenceNetwork  the network of a plant inside a fence: its least set is the best set inside the fence
+--     NetworkLaws   a network's least set is the only one, and the community where sets cost what they cost in the plant; sums over nodes
+--     NodeNetwork   one network for all walls, whose nodes are sets of devices: what a set of nodes costs, and its least set
 --     CrossingLaws  the rate that the search between two levels finds
 --     EndLaws       the groups at the highest and at the lowest rates
 --     LadderLaws    levels between two rates: one breakpoint, two ladders joined, and the hierarchy from a whole ladder
@@ -34,6 +33,7 @@
 --     HierarchyLaws a plant has one hierarchy, and its levels are all groupings that occur
 --     Owners        owners of devices, whichever way the devices are gone through
 --     Sweep         the groups by going through the devices once
+--     SweepLaws     which sets the owners depend on
 --     Order         the same in any order of the devices
 pub mod Figures
 pub mod RefusalLaws
@@ -60,6 +60,7 @@ pub mod Owners
 pub mod Sweep
 pub mod Order
 pub mod Instance
+pub mod SweepLaws
 pub mod EndLaws
 pub mod LadderLaws
 pub mod JoinLaws
@@ -69,5 +70,4 @@ pub mod LevelLaws
 pub mod CrossingLaws
 pub mod UnionLaws
 pub mod NetworkLaws
-pub mod ContractLaws
-pub mod FenceNetwork
+pub mod NodeNetwork

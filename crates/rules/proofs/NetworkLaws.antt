@@ -1,4 +1,4 @@
--- Networks: the least set is the only one, and laws of the drains of a set, which are a sum over its nodes.
+-- Networks: the least set is the only one, it is the community where a set of nodes costs what it costs in the plant, and laws of the drains of a set, which are a sum over its nodes.
 -- Assumes nothing.
 use Prim.Native.Nat.{ℕ, zero, suc, _+_, _*_, _<_}
 use mathlib.Core.Path.{_≡_, refl, sym, ap₂, _∙_}
@@ -9,11 +9,15 @@ use native.Mathlib.Nat.{le-step, lt-suc-self, le-of-suc-le-suc, eq-or-lt-of-le, 
 use native.Mathlib.Omega.{arith}
 use lib.Dec.{eqb}
 use borrow.Author.Tests.{eq-eqb, ne-eqb}
-use Rattle.rules.specs.Plant.{Line}
-use Rattle.rules.specs.Cut.{Devices}
+use Rattle.rules.specs.Plant.{Line, Plant}
+use Rattle.rules.specs.Accepted.{Sound}
+use Rattle.rules.specs.Cut.{Devices, cost}
 use Rattle.rules.specs.Sets.{Agree}
-use Rattle.rules.specs.Network.{drained, IsLeast}
+use Rattle.rules.specs.Community.{community}
+use Rattle.rules.specs.Network.{drained, netCost, IsLeast}
 use Rattle.rules.proofs.SetLaws.{agree-both}
+use Rattle.rules.proofs.Sums.{size-inside}
+use Rattle.rules.proofs.Communities.{community-only}
 
 -- two least sets of one network and one start hold the same nodes
 pub least-only :
@@ -23,6 +27,22 @@ pub least-only :
     Agree k S T
 least-only {S = S} {T = T} s t =
     agree-both S T (s .inside T (t .holds) (t .least S (s .holds))) (t .inside S (s .holds) (s .least T (t .holds)))
+
+-- a network of all devices in which each set costs what it costs in the plant: the least set that holds device d is the community of d
+pub least-community :
+    (g : Plant) (p q : ℕ) {lines : List Line} {drains : ℕ → ℕ} {d : ℕ} {S : Devices} →
+    Sound g →
+    d < g .devices →
+    ((T : Devices) → netCost lines drains (g .devices) T ≡ cost g p q T) →
+    IsLeast lines drains (g .devices) d S →
+    Agree (g .devices) S (community g p q d)
+least-community g p q {S = S} s b e t =
+    community-only s b
+    (record {
+      holds = t .holds;
+      least = λ T h. omega (arith, e S, e T, t .least T h);
+      fewest = λ T h l. size-inside g S T (t .inside T h (omega (arith, e S, e T)));
+    })
 
 -- only the drains of nodes of S count
 cond-agree : (b : Bool) (x y : ℕ) → (b ≡ true → x ≡ y) → cond b x 0 ≡ cond b y 0

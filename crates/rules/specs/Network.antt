@@ -2,13 +2,12 @@
 -- Assumes nothing.
 use Prim.Native.Nat.{ℕ, zero, suc, _+_, _*_, _≤_, _<_}
 use mathlib.Core.Path.{_≡_}
-use mathlib.Core.Bool.{true, not, _&&_, cond}
+use mathlib.Core.Bool.{true, cond}
 use mathlib.Core.List.{List, [], _∷_}
 use lib.Dec.{eqb}
 use Rattle.rules.specs.Plant.{Line, Plant}
-use Rattle.rules.specs.Accepted.{EndsBelow}
-use Rattle.rules.specs.Cut.{Devices, out, size, sizeAt}
-use Rattle.rules.specs.Sets.{Inside, between}
+use Rattle.rules.specs.Cut.{Devices, crossing, out, size}
+use Rattle.rules.specs.Sets.{Inside}
 
 -- the drains of those nodes below k that are in S
 unfoldable pub drained : (ℕ → ℕ) → ℕ → Devices → ℕ
@@ -25,35 +24,27 @@ pub record IsLeast (lines : List Line) (drains : ℕ → ℕ) (k start : ℕ) (S
   pub least : (T : Devices) → T start ≡ true → netCost lines drains k S ≤ netCost lines drains k T
   pub inside : (T : Devices) → T start ≡ true → netCost lines drains k T ≤ netCost lines drains k S → Inside k S T
 
--- the set of x alone
-abbrev pub one : ℕ → Devices
-one x i = eqb i x
+-- One network for all walls at once. node v is the node of device v, a number below the number of devices; wall x is the wall in which node x lies.
 
--- the widths of the lines between nodes x and y together
-abbrev pub widthBetween : List Line → ℕ → ℕ → ℕ
-widthBetween lines x y = between lines (one x) (one y)
+-- the signals on lines between nodes of one wall of which exactly one is in N
+unfoldable pub innerCut : (ℕ → ℕ) → (ℕ → ℕ) → List Line → Devices → ℕ
+innerCut node wall [] N = 0
+innerCut node wall (l ∷ ls) N =
+    cond (eqb (wall (node (l .first))) (wall (node (l .second)))) (crossing (l .signals) (N (node (l .first))) (N (node (l .second)))) 0
+    + innerCut node wall ls N
 
--- the devices of B whose node is in N
-abbrev pub ofNodes : Devices → (ℕ → ℕ) → Devices → Devices
-ofNodes B node N v = B v && N (node v)
+-- the signals on lines from the devices of node x to devices of another wall
+unfoldable pub outerSignals : (ℕ → ℕ) → (ℕ → ℕ) → List Line → ℕ → ℕ
+outerSignals node wall [] x = 0
+outerSignals node wall (l ∷ ls) x =
+    cond (eqb (wall (node (l .first))) (wall (node (l .second))))
+    0
+    (cond (eqb (node (l .first)) x) (l .signals) 0 + cond (eqb (node (l .second)) x) (l .signals) 0)
+    + outerSignals node wall ls x
 
--- a network whose nodes stand for sets of devices of B, a fence, at the rate p/q: node v is the node of a device v of B. A node's drain is p × the size of its devices, and q × the signals on their lines to the outside of B. Between two nodes the lines' widths, however many lines there are, make up q × the signals between their devices.
-pub record Contracts (g : Plant) (p q : ℕ) (B : Devices) (node : ℕ → ℕ) (k : ℕ) (lines : List Line) (drains : ℕ → ℕ) : Type 0 where
-  pub numbered : (v : ℕ) → v < g .devices → B v ≡ true → node v < k
-  pub ends : EndsBelow k lines
-  pub width : (x y : ℕ) → x < y → y < k
-      → widthBetween lines x y ≡ q * between (g .lines) (ofNodes B node (one x)) (ofNodes B node (one y))
-  pub drain : (x : ℕ) → x < k
-      → drains x ≡ p * size g (ofNodes B node (one x)) + q * between (g .lines) (ofNodes B node (one x)) (λ v. not (B v))
-
--- each device as its own node: the lines with both ends in F, with q times their signals
-unfoldable pub fenceLines : ℕ → Devices → List Line → List Line
-fenceLines q F [] = []
-fenceLines q F (l ∷ ls) =
-    cond (F (l .first) && F (l .second))
-    (record { first = l .first; second = l .second; signals = q * l .signals } ∷ fenceLines q F ls)
-    (fenceLines q F ls)
-
--- and the drain of device v: p × its size, and q × the signals on its lines to the outside of F; none outside F
-unfoldable pub fenceDrain : Plant → ℕ → ℕ → Devices → ℕ → ℕ
-fenceDrain g p q F v = cond (F v) (p * sizeAt g v + q * between (g .lines) (one v) (λ i. not (F i))) 0
+-- a network at the rate p/q whose nodes stand for their devices. Its lines, however many there are, join nodes of one wall and are q times as wide as the signals between their devices: so says the cut of each set N of nodes. A node's drain is p × the size of its devices, and q × the signals on their lines to another wall.
+pub record Stands (g : Plant) (p q : ℕ) (node wall : ℕ → ℕ) (lines : List Line) (drains : ℕ → ℕ) : Type 0 where
+  pub numbered : (v : ℕ) → v < g .devices → node v < g .devices
+  pub cut : (N : Devices) → out lines N ≡ q * innerCut node wall (g .lines) N
+  pub drain : (x : ℕ) → x < g .devices
+      → drains x ≡ p * size g (λ v. eqb (node v) x) + q * outerSignals node wall (g .lines) x

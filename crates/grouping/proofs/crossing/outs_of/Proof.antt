@@ -1,17 +1,17 @@
 -- `grouping::crossing::outs_of` meets its contract. The loop's invariant: each out is that of the first l lines. Assumes nothing.
-use Prim.Native.Nat.{ℕ, _-_, _≤_}
+use Prim.Native.Nat.{ℕ, _-_, _*_, _≤_}
 use native.Mathlib.Omega.{arith}
 use mathlib.Core.Path.{sym}
 use mathlib.Core.Logic.{⊎-elim}
 use mathlib.Core.List.{List}
 use lib.ListN.{length}
 use lib.Seq.{getD-set-other}
-use Rattle.grouping.proofs.GroupSums.{Tally, outOf, LineFits, tally-start, outed-fits, outed-other, outed-both, outed-done}
+use Rattle.grouping.proofs.GroupSums.{Tally, none, outOf, LineFits, tally-start, outed-fits, outed-other, outed-both, outed-done}
 use Rattle.grouping.proofs.crossing.outs_of.Statement.{statement}
 use Rattle.grouping.proofs.crossing.outs_of.Tie as tie
 
 abbrev Inv-loop : tie.InvT-loop
-Inv-loop n firsts seconds signals labels outs₀ l₀ outs l = (l ≤ length firsts) × Tally n (outOf firsts seconds signals labels) outs l
+Inv-loop n firsts seconds signals labels outs₀ l₀ outs l = (l ≤ length firsts) × Tally n none (outOf firsts seconds signals labels) outs l
 
 abbrev μ-loop : tie.MeasureT-loop
 μ-loop n firsts seconds signals labels outs₀ l₀ outs l = length firsts - l
@@ -23,7 +23,7 @@ loop-holds c = (omega arith, tally-start _ _ (omega (arith, c .pre .0 .most-devi
 abbrev Known : tie.In-loop Inv-loop μ-loop → Type 0
 Known c =
     let args = c .before .before .args in
-    LineFits (args .n) (args .firsts .now) (args .seconds .now) (args .signals .now) (args .labels .now) (c .before .loop .outs) (c .before .loop .l)
+    LineFits (args .n) (args .firsts .now) (args .seconds .now) (args .signals .now) (args .labels .now) (c .before .loop .outs) (c .before .loop .l) (c .before .loop .l * 65535)
 
 line : (c : tie.In-loop Inv-loop μ-loop) → Known c
 line c = outed-fits _ _ _ _ _ (c .before .loop .inv .1) (c .before .before .pre .0) (c .before .before .pre .1) (c .loop-test .taken)

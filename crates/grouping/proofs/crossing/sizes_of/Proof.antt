@@ -2,12 +2,12 @@
 use Prim.Native.Nat.{_-_, _≤_, _<_}
 use native.Mathlib.Omega.{arith}
 use lib.ListN.{getD}
-use Rattle.grouping.proofs.GroupSums.{Tally, sizeOf, tally-start, sized-most, sized-next, sized-done}
+use Rattle.grouping.proofs.GroupSums.{Tally, none, sizeOf, tally-start, sized-most, sized-next, sized-done}
 use Rattle.grouping.proofs.crossing.sizes_of.Statement.{statement}
 use Rattle.grouping.proofs.crossing.sizes_of.Tie as tie
 
 abbrev Inv-loop : tie.InvT-loop
-Inv-loop n labels sizes₀ v₀ sizes v = (v ≤ n) × Tally n (sizeOf labels) sizes v
+Inv-loop n labels sizes₀ v₀ sizes v = (v ≤ n) × Tally n none (sizeOf labels) sizes v
 
 abbrev μ-loop : tie.MeasureT-loop
 μ-loop n labels sizes₀ v₀ sizes v = n - v

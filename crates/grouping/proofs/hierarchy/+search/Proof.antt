@@ -165,7 +165,7 @@ search-level-between-requires : (t : ℕ) → search-lts.Need-level-between-requ
 search-level-between-requires t c κs =
     let start = c .before .before .before .before .before .before .before .before .before in (
       (c .before .before .crossing .ensures .accepted, start .pre .1 .0 .0),
-      (start .pre .1 .0 .1, some-between _ (accepted-sound _ _ _ _ (start .pre .1 .0 .0)) (from-some _ (start .pre .1 .1 .0)) (c .before .before .crossing .ensures)),
+      some-between _ (accepted-sound _ _ _ _ (start .pre .1 .0 .0)) (from-some _ (start .pre .1 .1 .0)) (c .before .before .crossing .ensures),
     )
 
 search-settle-requires-2 : (t : ℕ) → search-lts.Need-settle-requires-2 (

@@ -34,7 +34,7 @@ level-between-requires c κs =
     let at = c .before .before .before .before .before .before .before .before in
     let rate = c .before .before .crossing .ensures in
     let plant = start at .pre .0 .0 in
-    ((rate .accepted, plant), (at .loop .inv .levels .1, turn-between (at .loop .inv) (accepted-sound _ _ _ _ plant) rate))
+    ((rate .accepted, plant), turn-between (at .loop .inv) (accepted-sound _ _ _ _ plant) rate)
 
 returns : tie.Need-returns Inv-loop μ-loop
 unfolding plantOf

@@ -27,7 +27,7 @@ slice-aggregate-open-lines-2 c = refl
 
 open-lines-requires : tie.Need-open-lines-requires Inv-loop μ-loop
 open-lines-requires c κs =
-    let s = c .before .before .before .before .before .before in (omega (arith, s .pre .0 .lines, s .pre .0 .even′), omega (arith, s .pre .0 .lines, s .pre .0 .even′))
+    let s = c .before .before .before .before .before .before in (omega (arith, s .pre .0 .network .lines, s .pre .0 .network .even′), omega (arith, s .pre .0 .network .lines, s .pre .0 .network .even′))
 
 slice-aggregate-open-drains : tie.Need-slice-aggregate-open-drains Inv-loop μ-loop
 slice-aggregate-open-drains c = refl
@@ -35,7 +35,7 @@ slice-aggregate-open-drains c = refl
 open-drains-requires : tie.Need-open-drains-requires Inv-loop μ-loop
 open-drains-requires c κs =
     let s = c .before .before .before .before .before .before .before .before .before .before in
-    (s .pre .0 .drains, s .pre .0 .few)
+    (s .pre .0 .network .drains, s .pre .0 .network .few)
 
 loop-holds : tie.Need-loop-holds Inv-loop μ-loop
 loop-holds c =
@@ -50,14 +50,14 @@ round-requires : tie.Need-round-requires Inv-loop μ-loop
 round-requires c κs =
     let s = c .before .before .before .before .before .before .before .before .before .before .before .before .before .before .before .before .before .before .before .before .before in
     let inv = c .before .before .before .before .before .before .before .before .loop .inv in
-    (laid-network (s .pre .0), (omega (arith, s .pre .0 .few, s .pre .0 .node), (s .pre .1 .0, (s .pre .1 .1, (inv .more (c .before .before .before .before .before .before .before .loop-test .taken), spares-small (s .pre .0) (inv .spares))))))
+    (laid-network (s .pre .0 .network), (omega (arith, s .pre .0 .network .few, s .pre .0 .node), (s .pre .1 .0, (s .pre .1 .1, (inv .more (c .before .before .before .before .before .before .before .loop-test .taken), spares-small (s .pre .0) (inv .spares))))))
 
 loop-less : tie.Need-loop-less Inv-loop μ-loop
 loop-less c = rw (c .before .before .before .before .before .before .before .before .loop-test .taken) (omega (arith, c .round .ensures .1 .1 .0))
 
 loop-again : tie.Need-loop-again Inv-loop μ-loop
 loop-again c = record {
-  spares = c .round .ensures .1 .1 .1 _ _ _ _ (c .before .before .before .before .before .before .before .before .before .before .before .before .before .before .before .before .before .before .before .before .before .before .pre .0) (c .before .before .before .before .before .before .before .before .before .loop .inv .spares);
+  spares = c .round .ensures .1 .1 .1 _ _ _ (c .before .before .before .before .before .before .before .before .before .before .before .before .before .before .before .before .before .before .before .before .before .before .pre .0) (c .before .before .before .before .before .before .before .before .before .loop .inv .spares);
   more = c .round .ensures .1 .0;
   none = c .round .ensures .0;
 }
@@ -66,7 +66,7 @@ returns : tie.Need-returns Inv-loop μ-loop
 returns c =
     let s = c .before .before .before .before .before .before .before .before .before .before .before .before .before .before in
     let inv = c .before .loop .inv in
-    (spares-done (laid-network (s .pre .0)) (s .pre .0 .few) (inv .spares) (inv .none (c .loop-test .left)), spares-marks (laid-network (s .pre .0)) (s .pre .0 .few) (inv .spares) (inv .none (c .loop-test .left)))
+    (spares-done (laid-network (s .pre .0 .network)) (s .pre .0 .network .few) (inv .spares) (inv .none (c .loop-test .left)), spares-marks (laid-network (s .pre .0 .network)) (s .pre .0 .network .few) (inv .spares) (inv .none (c .loop-test .left)))
 
 pub least-spec : {M : Type 1} → statement M
 least-spec =

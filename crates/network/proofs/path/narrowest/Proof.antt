@@ -1,6 +1,8 @@
 -- `network::path::narrowest` meets its contract. The loop's invariant is `Narrow`: what is at most `most` and can go to place j can go to place `end`. The measure is j.
 -- Assumes nothing.
 use Prim.Native.Nat.{_<_}
+use mathlib.Core.Path.{refl}
+use mathlib.Core.Logic.{inl, inr}
 use native.Mathlib.Omega.{arith}
 use denote.Ref.{now}
 use lib.ListN.{length, getD}
@@ -46,16 +48,16 @@ loop-less : tie.Need-loop-less Inv-loop μ-loop
 loop-less c = back-one (c .before .before .before .before .before) .0
 
 loop-again : tie.Need-loop-again Inv-loop μ-loop
-loop-again c = narrow-step _ _ _ _ _ _ _ _ _ (c .before .before .before .before .before .before .loop .inv) (c .before .before .before .before .before .loop-test .taken) (back-one (c .before .before .before .before .before) .0) (omega (arith, c .before .before .before .before .before .before .before .before .pre .1 .1 (c .before .before .before .before .before .before .loop .j) (c .before .before .before .before .before .loop-test .taken) (omega (arith, c .before .before .before .before .before .before .loop .inv .within)))) (omega arith) (omega arith)
+loop-again c = narrow-step _ _ _ _ _ _ _ _ _ (c .before .before .before .before .before .before .loop .inv) (c .before .before .before .before .before .loop-test .taken) (back-one (c .before .before .before .before .before) .0) (omega (arith, c .before .before .before .before .before .before .before .before .pre .1 .1 (c .before .before .before .before .before .before .loop .j) (c .before .before .before .before .before .loop-test .taken) (omega (arith, c .before .before .before .before .before .before .loop .inv .within)))) (omega arith) (omega arith) (inr (c .before .spare-from .ensures))
 
 loop-less-2 : tie.Need-loop-less-2 Inv-loop μ-loop
 loop-less-2 c = back-one (c .before .before .before .before .before) .0
 
 loop-again-2 : tie.Need-loop-again-2 Inv-loop μ-loop
-loop-again-2 c = narrow-step _ _ _ _ _ _ _ _ _ (c .before .before .before .before .before .before .loop .inv) (c .before .before .before .before .before .loop-test .taken) (back-one (c .before .before .before .before .before) .0) (c .before .before .before .before .before .before .loop .inv .some) (omega arith) (omega arith)
+loop-again-2 c = narrow-step _ _ _ _ _ _ _ _ _ (c .before .before .before .before .before .before .loop .inv) (c .before .before .before .before .before .loop-test .taken) (back-one (c .before .before .before .before .before) .0) (c .before .before .before .before .before .before .loop .inv .some) (omega arith) (omega arith) (inl refl)
 
 returns : tie.Need-returns Inv-loop μ-loop
-returns c = ((c .before .loop .inv .some, c .before .loop .inv .capped), narrow-end _ _ _ _ _ _ _ _ (c .before .loop .inv) (c .loop-test .left))
+returns c = ((c .before .loop .inv .some, c .before .loop .inv .capped), (c .before .loop .inv .full, narrow-end _ _ _ _ _ _ _ _ (c .before .loop .inv) (c .loop-test .left)))
 
 pub narrowest-spec : {M : Type 1} → statement M
 narrowest-spec =

@@ -60,7 +60,7 @@ loop-again c =
     (going-step _ _ _ _ _ _ _ _ _ (c .before .before .before .before .before .before .before .before .before .before .pre .1 .1 .0) (c .before .before .before .before .before .before .before .loop .inv) (c .before .before .before .before .before .before .loop-test .taken) (omega (arith, c .before .before .before .before .before .before .before .before .before .before .pre .0 .few, c .before .before .before .before .send-over-arg .given .0 .1)) (omega (arith, c .before .before .before .before .before .before .before .before .before .before .pre .0 .few, c .before .before .before .send-over-arg2 .given .0 .1)))
 
 returns : tie.Need-returns Inv-loop μ-loop
-returns c = (going-end _ _ _ _ _ _ _ _ _ (c .before .loop .inv) (c .loop-test .left), going-kept _ _ _ _ _ _ _ _ _ (c .before .loop .inv))
+returns c = (going-end _ _ _ _ _ _ _ _ _ (c .before .loop .inv) (c .loop-test .left), going-kept _ _ _ _ _ _ _ _ _ (c .before .loop .inv) (c .loop-test .left))
 
 pub send-spec : {M : Type 1} → statement M
 send-spec =
