@@ -1,4 +1,4 @@
--- The community of a device, as `best` finds it among all sets, is what document 01's sentence says: it holds the device, no set that holds it costs less, and none of equal cost has fewer devices. The same inside a fence.
+-- The community of a device, as `best` finds it among all sets, is what document 01's sentence says: it holds the device, no set that holds it costs less, and none of equal cost has fewer devices.
 -- Every set of devices agrees below n with one of the list `sets n`; `best` goes through that list.
 -- Assumes nothing.
 use Prim.Native.Nat.{ℕ, zero, suc, _≤_, _<_}
@@ -14,7 +14,7 @@ use Rattle.rules.specs.Plant.{Plant}
 use Rattle.rules.specs.Accepted.{Sound}
 use Rattle.rules.specs.Cut.{Devices, size, cost}
 use Rattle.rules.specs.Sets.{Inside, Agree}
-use Rattle.rules.specs.Community.{with, sets, everyone, better, best, community, within, fenced, communityIn}
+use Rattle.rules.specs.Community.{with, sets, everyone, better, best, community}
 use Rattle.rules.specs.CommunityIs.{IsCommunityIn, IsCommunity}
 use Rattle.rules.proofs.SetLaws.{and-left, and-right, below-suc}
 use Rattle.rules.proofs.Sums.{agree-size, agree-cost}
@@ -171,35 +171,6 @@ best-of-all g p q ok s same R T o =
     let alike : NoLater g p q S T = record { cheap = omega arith; small = λ h. omega arith } in
     no-later-trans g p q (best-listed g p q ok R S m (same S T a ∙ o)) alike
 
--- `within` tests `Inside`
-within-agree : (k : ℕ) (S T F : Devices) → Agree k S T → within k S F ≡ within k T F
-unfolding within
-within-agree zero S T F a = refl
-within-agree (suc k) S T F a = rw (a k (lt-suc-self k), within-agree k S T F (λ i b. a i (le-step b)))
-
-pub within-inside : (k : ℕ) (S F : Devices) → within k S F ≡ true → Inside k S F
-unfolding within
-within-inside zero S F e = λ i b h. absurd (omega arith)
-within-inside (suc k) S F e =
-    below-suc
-    _
-    k
-    (within-inside k S F (and-right (not (S k) || F k) (within k S F) e))
-    (go (S k) (F k) (and-left (not (S k) || F k) (within k S F) e))
-  where
-    go : (a b : Bool) → (not a || b) ≡ true → a ≡ true → b ≡ true
-    go true b h t = h
-    go false b h t = absurd (false≢true t)
-
-pub inside-within : (k : ℕ) (S F : Devices) → Inside k S F → within k S F ≡ true
-unfolding within
-inside-within zero S F h = refl
-inside-within (suc k) S F h = rw (go (S k) (F k) (h k (lt-suc-self k))) (inside-within k S F (λ i b. h i (le-step b)))
-  where
-    go : (a b : Bool) → (a ≡ true → b ≡ true) → (not a || b) ≡ true
-    go true b f = f refl
-    go false b f = refl
-
 best-passes :
     (g : Plant) (p q : ℕ) (ok : Devices → Bool) (R : Devices) (Ss : List Devices) →
     ok R ≡ true →
@@ -212,53 +183,6 @@ best-past :
     Past (g .devices) (best g p q ok R (sets (g .devices)))
 best-past g p q ok R r = best-keeps g p q ok (Past (g .devices)) R (sets (g .devices)) r (λ S m o. sets-past (g .devices) S m)
 
--- inside a fence F
-pub communityIn-is :
-    (g : Plant) (p q : ℕ) (F : Devices) (d : ℕ) →
-    Sound g →
-    d < g .devices →
-    F d ≡ true →
-    IsCommunityIn g p q F d (communityIn g p q F d)
-unfolding communityIn fenced everyone
-communityIn-is g p q F d s b f =
-    record {
-      holds = and-left (C d) (within n C F) passes;
-      inside = within-inside n C F (and-right (C d) (within n C F) passes);
-      least = λ T t i. first T t i .cheap;
-      fewest = λ T t i. first T t i .small;
-    }
-  where
-    n : ℕ
-    n = g .devices
-
-    C : Devices
-    C = communityIn g p q F d
-
-    passes : (C d && within n C F) ≡ true
-    passes =
-        let whole = inside-within n (fenced g F) F (λ i c h. and-right (everyone g i) (F i) h) in
-        best-passes g p q (λ S. S d && within n S F) (fenced g F) (sets n) (rw (lt-ltb d n b, f) whole)
-
-    first : (T : Devices) → T d ≡ true → Inside n T F → NoLater g p q C T
-    first T t i =
-        best-of-all
-        g
-        p
-        q
-        (λ S. S d && within n S F)
-        s
-        (λ S R a. rw (a d b, within-agree n S R F a))
-        (fenced g F)
-        T
-        (rw t (inside-within n T F i))
-
-pub communityIn-past :
-    (g : Plant) (p q : ℕ) (F : Devices) (d i : ℕ) → g .devices ≤ i → communityIn g p q F d i ≡ false
-unfolding communityIn fenced everyone Past
-communityIn-past g p q F d i l =
-    best-past g p q (λ S. S d && within (g .devices) S F) (fenced g F) (λ j h. rw (le-ltb j (g .devices) h)) i l
-
--- with no fence
 pub community-is :
     (g : Plant) (p q d : ℕ) → Sound g → d < g .devices → IsCommunity g p q d (community g p q d)
 unfolding community everyone

@@ -10,11 +10,11 @@ use Rattle.rules.specs.Plant.{Plant}
 use Rattle.rules.specs.Accepted.{Sound}
 use Rattle.rules.specs.Cut.{Devices, size, cost}
 use Rattle.rules.specs.Sets.{Inside, Agree, minus}
-use Rattle.rules.specs.Community.{community, communityIn}
+use Rattle.rules.specs.Community.{community}
 use Rattle.rules.specs.CommunityIs.{IsCommunityIn, IsCommunity}
 use Rattle.rules.proofs.SetLaws.{and-left, and-right, or-right, agree-both}
 use Rattle.rules.proofs.Sums.{meet, join, cost-submodular, cost-posimodular, inside-equal, size-holds}
-use Rattle.rules.proofs.Best.{communityIn-is, community-is}
+use Rattle.rules.proofs.Best.{community-is}
 
 -- a community is one inside the fence of all devices
 pub unfenced : {g : Plant} {p q d : ℕ} {C : Devices} → IsCommunity g p q d C → IsCommunityIn g p q (λ i. true) d C
@@ -89,14 +89,6 @@ only {g} {C = C} {D = D} c e =
     (smallest D c (e .holds) (e .inside) (e .least C (c .holds) (c .inside)))
     (smallest C e (c .holds) (c .inside) (c .least D (e .holds) (e .inside)))
 
-pub communityIn-only :
-    {g : Plant} {p q d : ℕ} {F C : Devices} →
-    Sound g →
-    d < g .devices →
-    IsCommunityIn g p q F d C →
-    Agree (g .devices) C (communityIn g p q F d)
-communityIn-only {g} {p} {q} {d} {F} s b c = only c (communityIn-is g p q F d s b (c .inside d b (c .holds)))
-
 pub community-only :
     {g : Plant} {p q d : ℕ} {C : Devices} →
     Sound g →
@@ -104,15 +96,6 @@ pub community-only :
     IsCommunity g p q d C →
     Agree (g .devices) C (community g p q d)
 community-only {g} {p} {q} {d} s b c = only (unfenced c) (unfenced (community-is g p q d s b))
-
--- a fence that the community lies in changes nothing
-pub fence-off :
-    (g : Plant) (p q : ℕ) (F : Devices) (d : ℕ) →
-    Sound g →
-    d < g .devices →
-    Inside (g .devices) (community g p q d) F →
-    Agree (g .devices) (communityIn g p q F d) (community g p q d)
-fence-off g p q F d s b h i c = sym (communityIn-only s b (fence-in F (community-is g p q d s b) h) i c)
 
 -- the community of a device of a community lies inside it
 pub nestedIn :

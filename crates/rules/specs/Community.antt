@@ -1,7 +1,7 @@
 -- Document 01, "Cuts, communities, groups", second paragraph.
 -- Assumes nothing.
 use Prim.Native.Nat.{ℕ, zero, suc}
-use mathlib.Core.Bool.{Bool, true, false, not, _&&_, _||_, cond}
+use mathlib.Core.Bool.{Bool, false, _&&_, _||_, cond}
 use mathlib.Core.List.{List, [], _∷_, _++_, map}
 use lib.Dec.{ltb, eqb}
 use Rattle.rules.specs.Plant.{Plant}
@@ -32,16 +32,3 @@ best g p q ok T (S ∷ Ss) = best g p q ok (cond (ok S && better g p q S T) S T)
 -- "The community of device d is the set of least cost among sets containing d; among those of equal cost, the one with fewest devices."
 unfoldable pub community : Plant → ℕ → ℕ → ℕ → Devices
 community g p q d = best g p q (λ S. S d) (everyone g) (sets (g .devices))
-
--- whether each device below k that is in S is in F
-unfoldable pub within : ℕ → Devices → Devices → Bool
-within zero S F = true
-within (suc k) S F = (not (S k) || F k) && within k S F
-
--- all devices of the fence F
-unfoldable pub fenced : Plant → Devices → Devices
-fenced g F i = everyone g i && F i
-
--- the same among the sets that lie inside a fence F: the best set that holds d inside F
-unfoldable pub communityIn : Plant → ℕ → ℕ → Devices → ℕ → Devices
-communityIn g p q F d = best g p q (λ S. S d && within (g .devices) S F) (fenced g F) (sets (g .devices))
