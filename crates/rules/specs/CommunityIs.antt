@@ -14,7 +14,7 @@ pub record IsCommunityIn (g : Plant) (p q : ℕ) (F : Devices) (d : ℕ) (C : De
   pub least : (T : Devices) → T d ≡ true → Inside (g .devices) T F → cost g p q C ≤ cost g p q T
   pub fewest : (T : Devices) → T d ≡ true → Inside (g .devices) T F → cost g p q T ≤ cost g p q C → size g C ≤ size g T
 
--- and of the community itself: there is no fence
+-- and of the community itself, among all sets
 pub record IsCommunity (g : Plant) (p q : ℕ) (d : ℕ) (C : Devices) : Type 0 where
   pub holds : C d ≡ true
   pub least : (T : Devices) → T d ≡ true → cost g p q C ≤ cost g p q T

@@ -2,7 +2,7 @@
 -- What the public contracts cite:
 --     Plant       a line, a plant, a plant from its three lists
 --     Cut         a set of devices, its out, its size, its cost at a rate
---     Community   the community of a device, also inside a fence
+--     Community   the community of a device
 --     Groups      the group of a device, its label, the labels at a rate
 --     Sweep       the owners of devices, by going through the devices once
 --     Rates       accepted rates, order of fractions, lowest terms
