@@ -1,8 +1,9 @@
 -- `network::owners::take_over` meets its contract: a node without a line is its own least set, and of any other the nodes of the least set are painted.
 -- Assumes nothing.
-use mathlib.Core.Path.{_∙_}
+use mathlib.Core.Path.{_≡_, _∙_}
 use native.Mathlib.Omega.{arith}
 use denote.Ref.{now}
+use lib.ListN.{getD}
 use borrow.Author.Needs.{needs}
 use Rattle.network.proofs.AloneLaws.{alone, alone-least, alone-painted}
 use Rattle.network.proofs.owners.take_over.Statement.{statement}
@@ -23,7 +24,8 @@ same-length c = search needs
 returns : tie.Need-returns
 returns c =
     let s = c .before .before .before .before .before .before .before .before .before .before .before in
-    let none = rw (c .before .before .before .before .if1 .taken) at (s .pre .1 .1 .0 .last (s .args .x) (omega (arith, s .pre .0 .node, s .pre .0 .network .few))) in
+    let empty : getD (now (s .args .last)) (s .args .x) 0 ≡ 0 = c .before .before .before .before .if1 .taken in
+    let none = rw empty at (s .pre .1 .1 .0 .last (s .args .x) (omega (arith, s .pre .0 .node, s .pre .0 .network .few))) in
     (alone (s .args .x), alone-least (s .pre .0 .network) (s .args .x) none, c .before .before .put .ensures ∙ alone-painted (s .args .k) (s .args .x) (now (s .args .owner)) (s .pre .0 .node) (s .pre .1 .0))
 
 least-requires : tie.Need-least-requires
