@@ -8,6 +8,8 @@ use mathlib.Core.Bool.{Bool, true, false, cond}
 use mathlib.Core.List.{List}
 use native.Mathlib.Nat.{le-trans, zero-add, add-zero, mul-zero, mul-one, mul-add, mul-le-mul}
 use native.Mathlib.Omega.{arith}
+use mir.Syntax.{w64}
+use mir.Val.{Fits}
 use lib.Dec.{eqb}
 use lib.ListN.{length, getD, set, length-set}
 use borrow.Author.Tests.{eq-eqb, ne-eqb}
@@ -71,6 +73,10 @@ sides-most false s a b = omega (arith, cond-most a s, cond-most b s)
 
 pub width-most : (q s : ℕ) → q ≤ 1000 → s ≤ 65535 → q * s ≤ 65535000
 width-most q s a b = mul-le-mul a b
+
+-- the width of one more line still fits
+pub led-sum : {x w l : ℕ} → x ≤ 12800000000 + l * 131070000 → l < 1024 → w ≤ 65535000 → Fits w64 (x + w)
+led-sum a b c = omega arith
 
 module _ (n p q : ℕ) (xs ys zs node wall : List ℕ) where
   -- the shares, and what the first l lines add to them

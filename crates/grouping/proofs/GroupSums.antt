@@ -11,6 +11,8 @@ use native.Mathlib.Nat.{le-trans, add-zero, zero-add}
 use native.Mathlib.Numerals.{add-one}
 use native.Mathlib.Decide.{ℕ-discrete}
 use native.Mathlib.Omega.{arith}
+use mir.Syntax.{w64}
+use mir.Val.{Fits}
 use lib.Dec.{eqb}
 use lib.ListN.{length, getD, set, replicate, length-set, length-replicate, getD-replicate}
 use lib.Seq.{getD-set-same, getD-set-other}
@@ -133,6 +135,42 @@ line-fits {n} {xs} {ys} labels list l top a below b most = record {
 
     second-label : getD labels (getD ys l 0) 0 < n
     second-label = below _ (a .second-device l b)
+
+-- what the code asks of line l, of its ends and of their labels
+module _ {n : ℕ} {xs ys zs labels list : List ℕ} {l top : ℕ} (k : LineFits n xs ys zs labels list l top) where
+  pub line-place : Fits w64 (l * 8)
+  line-place = omega arith
+
+  pub line-after : Fits w64 (l + 1)
+  line-after = omega arith
+
+  pub first-in : getD xs l 0 < 128
+  first-in = omega arith
+
+  pub first-place : Fits w64 (getD xs l 0 * 8)
+  first-place = omega arith
+
+  pub second-in : getD ys l 0 < 128
+  second-in = omega arith
+
+  pub second-place : Fits w64 (getD ys l 0 * 8)
+  second-place = omega arith
+
+  pub first-label-in : getD labels (getD xs l 0) 0 < 128
+  first-label-in = omega arith
+
+  pub first-label-place : Fits w64 (getD labels (getD xs l 0) 0 * 8)
+  first-label-place = omega arith
+
+  pub second-label-in : getD labels (getD ys l 0) 0 < 128
+  second-label-in = omega arith
+
+  pub second-label-place : Fits w64 (getD labels (getD ys l 0) 0 * 8)
+  second-label-place = omega arith
+
+-- the signals of one more line still fit
+pub outed-sum : {x s l : ℕ} → x ≤ l * 65535 → l < 1024 → s ≤ 65535 → Fits w64 (x + s)
+outed-sum a b c = omega arith
 
 module _ (n : ℕ) (xs ys zs labels : List ℕ) where
   abbrev f : ℕ → ℕ → ℕ

@@ -10,6 +10,8 @@ use native.Mathlib.Nat.{mul-zero, mul-add, mul-le-mul, add-zero}
 use native.Mathlib.Numerals.{add-one}
 use native.Mathlib.Decide.{ℕ-discrete}
 use native.Mathlib.Omega.{arith}
+use mir.Syntax.{w64}
+use mir.Val.{Fits}
 use lib.Dec.{eqb}
 use lib.ListN.{length, getD, set}
 use lib.Seq.{getD-set-same, getD-set-other}
@@ -125,6 +127,32 @@ pub record LineJoins (n : ℕ) (xs ys zs : List ℕ) (q : ℕ) (node : List ℕ)
   pub most-devices : n ≤ 128
   pub few : q * getD zs l 0 ≤ 65535000
   pub room : WidthsBelow m widths
+
+-- what the code asks of line l, of its ends and of their nodes
+module _ {n : ℕ} {xs ys zs : List ℕ} {q : ℕ} {node : List ℕ} {l : ℕ} {widths : List ℕ} {m : ℕ} (k : LineJoins n xs ys zs q node l widths m) where
+  pub end-in : getD xs l 0 < 128
+  end-in = omega arith
+
+  pub end-place : Fits w64 (getD xs l 0 * 8)
+  end-place = omega arith
+
+  pub other-end-in : getD ys l 0 < 128
+  other-end-in = omega arith
+
+  pub other-end-place : Fits w64 (getD ys l 0 * 8)
+  other-end-place = omega arith
+
+  pub node-in : getD node (getD xs l 0) 0 < 128
+  node-in = omega arith
+
+  pub node-place : Fits w64 (getD node (getD xs l 0) 0 * 8)
+  node-place = omega arith
+
+  pub other-node-in : getD node (getD ys l 0) 0 < 128
+  other-node-in = omega arith
+
+  pub other-node-place : Fits w64 (getD node (getD ys l 0) 0 * 8)
+  other-node-place = omega arith
 
 module _ (n : ℕ) (xs ys zs : List ℕ) (q : ℕ) (node wall : List ℕ) where
   pub joined-start : (lower upper widths : List ℕ) → Joined n xs ys zs q node wall 0 lower upper widths 0

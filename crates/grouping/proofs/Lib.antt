@@ -1,4 +1,5 @@
 -- The laws behind the grouping part.
+--     FitLaws     an index and a count fit in a word
 --     OwnerLaws   labels from owners in one pass
 --     MarkLaws    the marks of the devices that own themselves
 --     FaultLaws   the first fault of the grouping call
@@ -19,6 +20,7 @@
 --     RowCalls    the row of a level as it is shown: the first fault, test by test, and no accepted row is empty
 --     Determined  two results that a contract allows are equal
 --     HierarchyDetermined  the same of the hierarchy and the joining rate, and what the filled lists say
+pub mod FitLaws
 pub mod OwnerLaws
 pub mod MarkLaws
 pub mod FaultLaws

@@ -1,12 +1,14 @@
 -- `grouping::crossing::outs_of` meets its contract. The loop's invariant: each out is that of the first l lines. Assumes nothing.
 use Prim.Native.Nat.{ℕ, _-_, _*_, _≤_}
+use native.Mathlib.Nat.{le-antisymm}
 use native.Mathlib.Omega.{arith}
 use mathlib.Core.Path.{sym}
 use mathlib.Core.Logic.{⊎-elim}
 use mathlib.Core.List.{List}
 use lib.ListN.{length}
 use lib.Seq.{getD-set-other}
-use Rattle.grouping.proofs.GroupSums.{Tally, none, outOf, LineFits, tally-start, outed-fits, outed-other, outed-both, outed-done}
+use Rattle.grouping.proofs.GroupSums.{Tally, none, outOf, LineFits, line-place, line-after, first-in, first-place, second-in, second-place, first-label-in, first-label-place, second-label-in, second-label-place, tally-start, outed-fits, outed-sum, outed-other, outed-both, outed-done}
+use Rattle.grouping.proofs.FitLaws.{turn-within, turn-less}
 use Rattle.grouping.proofs.crossing.outs_of.Statement.{statement}
 use Rattle.grouping.proofs.crossing.outs_of.Tie as tie
 
@@ -29,80 +31,80 @@ line : (c : tie.In-loop Inv-loop μ-loop) → Known c
 line c = outed-fits _ _ _ _ _ (c .before .loop .inv .1) (c .before .before .pre .0) (c .before .before .pre .1) (c .loop-test .taken)
 
 mul-a : tie.Need-mul-a Inv-loop μ-loop
-mul-a c = omega (arith, line c)
+mul-a c = line-place (line c)
 
 shared-slice-read-a : tie.Need-shared-slice-read-a Inv-loop μ-loop
-shared-slice-read-a c = omega arith
+shared-slice-read-a c = c .before .loop-test .taken
 
 mul-b : tie.Need-mul-b Inv-loop μ-loop
-mul-b c = omega (arith, line (c .before))
+mul-b c = line-place (line (c .before))
 
 shared-slice-read-b : tie.Need-shared-slice-read-b Inv-loop μ-loop
-shared-slice-read-b c = omega (arith, line (c .before .before))
+shared-slice-read-b c = line (c .before .before) .in-seconds
 
 mul-h : tie.Need-mul-h Inv-loop μ-loop
-mul-h c = omega (arith, line (c .before .before))
+mul-h c = first-place (line (c .before .before))
 
 element-copy-out-h : tie.Need-element-copy-out-h Inv-loop μ-loop
-element-copy-out-h c = omega (arith, line (c .before .before))
+element-copy-out-h c = first-in (line (c .before .before))
 
 mul-k : tie.Need-mul-k Inv-loop μ-loop
-mul-k c = omega (arith, line (c .before .before .before))
+mul-k c = second-place (line (c .before .before .before))
 
 element-copy-out-k : tie.Need-element-copy-out-k Inv-loop μ-loop
-element-copy-out-k c = omega (arith, line (c .before .before .before))
+element-copy-out-k c = second-in (line (c .before .before .before))
 
 -- the same in the branch
 inner : (c : tie.Then1 Inv-loop μ-loop) → Known (c .before .before .before .before .before)
 inner c = line (c .before .before .before .before .before)
 
 mul-outs : tie.Need-mul-outs Inv-loop μ-loop
-mul-outs c = omega (arith, inner c)
+mul-outs c = line-place (inner c)
 
 shared-slice-read-outs : tie.Need-shared-slice-read-outs Inv-loop μ-loop
-shared-slice-read-outs c = omega (arith, inner (c .before))
+shared-slice-read-outs c = inner (c .before) .in-signals
 
 mul-outs-2 : tie.Need-mul-outs-2 Inv-loop μ-loop
-mul-outs-2 c = omega (arith, inner (c .before))
+mul-outs-2 c = first-label-place (inner (c .before))
 
 array-read-outs : tie.Need-array-read-outs Inv-loop μ-loop
-array-read-outs c = omega (arith, inner (c .before))
+array-read-outs c = first-label-in (inner (c .before))
 
 add-outs : tie.Need-add-outs Inv-loop μ-loop
-add-outs c = omega (arith, inner (c .before))
+add-outs c = outed-sum (inner (c .before) .first-top) (inner (c .before) .most-lines) (inner (c .before) .few)
 
 array-write-outs : tie.Need-array-write-outs Inv-loop μ-loop
-array-write-outs c = omega (arith, inner (c .before))
+array-write-outs c = first-label-in (inner (c .before))
 
 mul-outs-3 : tie.Need-mul-outs-3 Inv-loop μ-loop
-mul-outs-3 c = omega (arith, inner (c .before))
+mul-outs-3 c = line-place (inner (c .before))
 
 shared-slice-read-outs-2 : tie.Need-shared-slice-read-outs-2 Inv-loop μ-loop
-shared-slice-read-outs-2 c = omega (arith, inner (c .before .before))
+shared-slice-read-outs-2 c = inner (c .before .before) .in-signals
 
 mul-outs-4 : tie.Need-mul-outs-4 Inv-loop μ-loop
-mul-outs-4 c = omega (arith, inner (c .before .before))
+mul-outs-4 c = second-label-place (inner (c .before .before))
 
 array-read-outs-2 : tie.Need-array-read-outs-2 Inv-loop μ-loop
-array-read-outs-2 c = omega (arith, inner (c .before .before))
+array-read-outs-2 c = second-label-in (inner (c .before .before))
 
 add-outs-2 : tie.Need-add-outs-2 Inv-loop μ-loop
-add-outs-2 c = rw (getD-set-other {A = ℕ} _ _ _ _ 0 (λ e. c .before .before .if1 .taken (sym e))) (omega (arith, inner (c .before .before)))
+add-outs-2 c = rw (getD-set-other {A = ℕ} _ _ _ _ 0 (λ e. c .before .before .if1 .taken (sym e))) (outed-sum (inner (c .before .before) .second-top) (inner (c .before .before) .most-lines) (inner (c .before .before) .few))
 
 array-write-outs-2 : tie.Need-array-write-outs-2 Inv-loop μ-loop
-array-write-outs-2 c = omega (arith, inner (c .before .before))
+array-write-outs-2 c = second-label-in (inner (c .before .before))
 
 add-l : tie.Need-add-l Inv-loop μ-loop
-add-l c = omega (arith, line (c .before .before .before .before .before))
+add-l c = line-after (line (c .before .before .before .before .before))
 
 loop-less : tie.Need-loop-less Inv-loop μ-loop
-loop-less c = omega (arith, line (c .before .before .before .before .before))
+loop-less c = turn-less _ _ (c .before .before .before .before .before .loop-test .taken)
 
 loop-again : tie.Need-loop-again Inv-loop μ-loop
 loop-again c = (
-  omega (arith, known),
+  turn-within _ _ (c .before .before .before .before .before .loop-test .taken),
   ⊎-elim
-      (λ w. rw (w .3) (outed-both _ xs ys zs labels (at .loop .inv .1) (w .0 .taken) (omega (arith, known)) (omega (arith, known))))
+      (λ w. rw (w .3) (outed-both _ xs ys zs labels (at .loop .inv .1) (w .0 .taken) (first-label-in known) (second-label-in known)))
       (λ w. rw (w .1) (outed-other _ xs ys zs labels (at .loop .inv .1) (w .0 .left)))
       (c .if1 .came),
 )
@@ -126,7 +128,7 @@ loop-again c = (
     known = line (c .before .before .before .before .before)
 
 returns : tie.Need-returns Inv-loop μ-loop
-returns c = outed-done _ _ _ _ _ (c .before .before .pre .0) (c .before .loop .inv .1) (omega arith)
+returns c = outed-done _ _ _ _ _ (c .before .before .pre .0) (c .before .loop .inv .1) (le-antisymm (c .before .loop .inv .0) (c .loop-test .left))
 
 pub outs-of-spec : {M : Type 1} → statement M
 outs-of-spec =

@@ -1,13 +1,15 @@
 -- `grouping::drains::drains_of` meets its contract. The loop's invariant: each node has its share and what the first l lines add to it. Assumes nothing.
 use Prim.Native.Nat.{ℕ, _+_, _-_, _*_, _≤_}
+use native.Mathlib.Nat.{le-antisymm}
 use native.Mathlib.Omega.{arith}
 use mathlib.Core.Path.{ap, sym}
 use mathlib.Core.Logic.{⊎-elim}
 use mathlib.Core.List.{List}
 use lib.ListN.{length, getD}
 use lib.Seq.{getD-set-other}
-use Rattle.grouping.proofs.GroupSums.{LineFits}
-use Rattle.grouping.proofs.DrainLaws.{Led, width-most, led-start, led-same, led-both, led-fits, led-done}
+use Rattle.grouping.proofs.FitLaws.{width-fits, turn-within, turn-less}
+use Rattle.grouping.proofs.GroupSums.{LineFits, line-place, line-after, first-in, first-place, second-in, second-place, first-label-in, first-label-place, second-label-in, second-label-place}
+use Rattle.grouping.proofs.DrainLaws.{Led, width-most, led-sum, led-start, led-same, led-both, led-fits, led-done}
 use Rattle.grouping.proofs.drains.drains_of.Statement.{statement}
 use Rattle.grouping.proofs.drains.drains_of.Tie as tie
 
@@ -41,40 +43,40 @@ line c =
     led-fits _ _ _ _ _ _ _ _ (pre .0) (pre .2) (pre .3) (c .before .loop .inv .1) (pre .1) (c .loop-test .taken)
 
 mul-a : tie.Need-mul-a Inv-loop μ-loop
-mul-a c = omega (arith, line c)
+mul-a c = line-place (line c)
 
 shared-slice-read-a : tie.Need-shared-slice-read-a Inv-loop μ-loop
-shared-slice-read-a c = omega (arith, line (c .before))
+shared-slice-read-a c = c .before .loop-test .taken
 
 mul-b : tie.Need-mul-b Inv-loop μ-loop
-mul-b c = omega (arith, line (c .before))
+mul-b c = line-place (line (c .before))
 
 shared-slice-read-b : tie.Need-shared-slice-read-b Inv-loop μ-loop
-shared-slice-read-b c = omega (arith, line (c .before .before))
+shared-slice-read-b c = line (c .before .before) .in-seconds
 
 mul-x : tie.Need-mul-x Inv-loop μ-loop
-mul-x c = omega (arith, line (c .before .before))
+mul-x c = first-place (line (c .before .before))
 
 element-copy-out-x : tie.Need-element-copy-out-x Inv-loop μ-loop
-element-copy-out-x c = omega (arith, line (c .before .before))
+element-copy-out-x c = first-in (line (c .before .before))
 
 mul-y : tie.Need-mul-y Inv-loop μ-loop
-mul-y c = omega (arith, line (c .before .before .before))
+mul-y c = second-place (line (c .before .before .before))
 
 element-copy-out-y : tie.Need-element-copy-out-y Inv-loop μ-loop
-element-copy-out-y c = omega (arith, line (c .before .before .before))
+element-copy-out-y c = second-in (line (c .before .before .before))
 
 mul-if1 : tie.Need-mul-if1 Inv-loop μ-loop
-mul-if1 c = omega (arith, line (c .before .before .before .before))
+mul-if1 c = first-label-place (line (c .before .before .before .before))
 
 element-copy-out-if1 : tie.Need-element-copy-out-if1 Inv-loop μ-loop
-element-copy-out-if1 c = omega (arith, line (c .before .before .before .before))
+element-copy-out-if1 c = first-label-in (line (c .before .before .before .before))
 
 mul-if1-2 : tie.Need-mul-if1-2 Inv-loop μ-loop
-mul-if1-2 c = omega (arith, line (c .before .before .before .before .before))
+mul-if1-2 c = second-label-place (line (c .before .before .before .before .before))
 
 element-copy-out-if1-2 : tie.Need-element-copy-out-if1-2 Inv-loop μ-loop
-element-copy-out-if1-2 c = omega (arith, line (c .before .before .before .before .before))
+element-copy-out-if1-2 c = second-label-in (line (c .before .before .before .before .before))
 
 -- the turn, from the branch in it
 abbrev turn : tie.Then1 Inv-loop μ-loop → tie.In-loop Inv-loop μ-loop
@@ -88,50 +90,50 @@ narrow : (c : tie.Then1 Inv-loop μ-loop) → start (turn c) .args .q * getD (st
 narrow c = width-most _ _ (start (turn c) .pre .3) (inner c .few)
 
 mul-width : tie.Need-mul-width Inv-loop μ-loop
-mul-width c = omega (arith, inner c)
+mul-width c = line-place (inner c)
 
 shared-slice-read-width : tie.Need-shared-slice-read-width Inv-loop μ-loop
-shared-slice-read-width c = omega (arith, inner (c .before))
+shared-slice-read-width c = inner (c .before) .in-signals
 
 mul-width-2 : tie.Need-mul-width-2 Inv-loop μ-loop
-mul-width-2 c = omega (arith, narrow (c .before))
+mul-width-2 c = width-fits _ (narrow (c .before))
 
 mul-drains : tie.Need-mul-drains Inv-loop μ-loop
-mul-drains c = omega (arith, inner (c .before))
+mul-drains c = first-label-place (inner (c .before))
 
 array-read-drains : tie.Need-array-read-drains Inv-loop μ-loop
-array-read-drains c = omega (arith, inner (c .before))
+array-read-drains c = first-label-in (inner (c .before))
 
 add-drains : tie.Need-add-drains Inv-loop μ-loop
-add-drains c = omega (arith, inner (c .before), narrow (c .before))
+add-drains c = led-sum (inner (c .before) .first-top) (inner (c .before) .most-lines) (narrow (c .before))
 
 array-write-drains : tie.Need-array-write-drains Inv-loop μ-loop
-array-write-drains c = omega (arith, inner (c .before))
+array-write-drains c = first-label-in (inner (c .before))
 
 mul-drains-2 : tie.Need-mul-drains-2 Inv-loop μ-loop
-mul-drains-2 c = omega (arith, inner (c .before))
+mul-drains-2 c = second-label-place (inner (c .before))
 
 array-read-drains-2 : tie.Need-array-read-drains-2 Inv-loop μ-loop
-array-read-drains-2 c = omega (arith, inner (c .before))
+array-read-drains-2 c = second-label-in (inner (c .before))
 
 add-drains-2 : tie.Need-add-drains-2 Inv-loop μ-loop
 add-drains-2 c =
-    rw (getD-set-other {A = ℕ} _ _ _ _ 0 (λ e. c .before .if1 .taken (ap (λ (x : ℕ). getD (start (turn (c .before)) .args .wall .now) x 0) (sym e)))) (omega (arith, inner (c .before), narrow (c .before)))
+    rw (getD-set-other {A = ℕ} _ _ _ _ 0 (λ e. c .before .if1 .taken (ap (λ (x : ℕ). getD (start (turn (c .before)) .args .wall .now) x 0) (sym e)))) (led-sum (inner (c .before) .second-top) (inner (c .before) .most-lines) (narrow (c .before)))
 
 array-write-drains-2 : tie.Need-array-write-drains-2 Inv-loop μ-loop
-array-write-drains-2 c = omega (arith, inner (c .before))
+array-write-drains-2 c = second-label-in (inner (c .before))
 
 add-l : tie.Need-add-l Inv-loop μ-loop
-add-l c = omega (arith, line (c .before .before .before .before .before .before .before))
+add-l c = line-after (line (c .before .before .before .before .before .before .before))
 
 loop-less : tie.Need-loop-less Inv-loop μ-loop
-loop-less c = omega (arith, line (c .before .before .before .before .before .before .before))
+loop-less c = turn-less _ _ (c .before .before .before .before .before .before .before .loop-test .taken)
 
 loop-again : tie.Need-loop-again Inv-loop μ-loop
 loop-again c = (
-  omega (arith, known),
+  turn-within _ _ (here .loop-test .taken),
   ⊎-elim
-      (λ w. rw (w .2) (led-both _ _ _ xs ys zs node wall (here .before .loop .inv .1) (w .0 .taken) (omega (arith, known)) (omega (arith, known))))
+      (λ w. rw (w .2) (led-both _ _ _ xs ys zs node wall (here .before .loop .inv .1) (w .0 .taken) (first-label-in known) (second-label-in known)))
       (λ w. rw (w .1) (led-same _ _ _ xs ys zs node wall (here .before .loop .inv .1) (w .0 .left)))
       (c .if1 .came),
 )
@@ -160,7 +162,7 @@ loop-again c = (
 returns : tie.Need-returns Inv-loop μ-loop
 returns c =
     let pre = c .before .before .before .before .before .before .pre in
-    led-done _ _ _ _ _ _ _ _ (pre .0) (pre .2) (pre .3) (c .before .loop .inv .1) (omega arith)
+    led-done _ _ _ _ _ _ _ _ (pre .0) (pre .2) (pre .3) (c .before .loop .inv .1) (le-antisymm (c .before .loop .inv .0) (c .loop-test .left))
 
 pub drains-of-spec : {M : Type 1} → statement M
 drains-of-spec =

@@ -1,7 +1,7 @@
 -- `grouping::join::join_line` meets its contract: a line is left out because its ends share a node or because their walls differ, or it is put. Assumes nothing.
-use native.Mathlib.Omega.{arith}
 use borrow.Author.Needs.{needs}
-use Rattle.grouping.proofs.JoinNetLaws.{LineJoins, line-joins, joined-inside, joined-outside, joined-put}
+use Rattle.grouping.proofs.FitLaws.{width-fits}
+use Rattle.grouping.proofs.JoinNetLaws.{LineJoins, end-in, end-place, other-end-in, other-end-place, node-in, node-place, other-node-in, other-node-place, line-joins, joined-inside, joined-outside, joined-put}
 use Rattle.grouping.proofs.join.join_line.Statement.{statement}
 use Rattle.grouping.proofs.join.join_line.Tie as tie
 
@@ -27,16 +27,16 @@ shared-slice-read-b : tie.Need-shared-slice-read-b
 shared-slice-read-b c = search needs
 
 mul-x : tie.Need-mul-x
-mul-x c = omega (arith, line (c .before .before .before .before .before))
+mul-x c = end-place (line (c .before .before .before .before .before))
 
 element-copy-out-x : tie.Need-element-copy-out-x
-element-copy-out-x c = omega (arith, line (c .before .before .before .before .before))
+element-copy-out-x c = end-in (line (c .before .before .before .before .before))
 
 mul-y : tie.Need-mul-y
-mul-y c = omega (arith, line (c .before .before .before .before .before .before))
+mul-y c = other-end-place (line (c .before .before .before .before .before .before))
 
 element-copy-out-y : tie.Need-element-copy-out-y
-element-copy-out-y c = omega (arith, line (c .before .before .before .before .before .before))
+element-copy-out-y c = other-end-in (line (c .before .before .before .before .before .before))
 
 returns : tie.Need-returns
 returns c =
@@ -44,16 +44,16 @@ returns c =
     joined-inside _ _ _ _ _ _ _ (s .pre .1) (c .if1 .taken)
 
 mul-if2 : tie.Need-mul-if2
-mul-if2 c = omega (arith, line (c .before .before .before .before .before .before .before .before))
+mul-if2 c = node-place (line (c .before .before .before .before .before .before .before .before))
 
 element-copy-out-if2 : tie.Need-element-copy-out-if2
-element-copy-out-if2 c = omega (arith, line (c .before .before .before .before .before .before .before .before))
+element-copy-out-if2 c = node-in (line (c .before .before .before .before .before .before .before .before))
 
 mul-if2-2 : tie.Need-mul-if2-2
-mul-if2-2 c = omega (arith, line (c .before .before .before .before .before .before .before .before .before))
+mul-if2-2 c = other-node-place (line (c .before .before .before .before .before .before .before .before .before))
 
 element-copy-out-if2-2 : tie.Need-element-copy-out-if2-2
-element-copy-out-if2-2 c = omega (arith, line (c .before .before .before .before .before .before .before .before .before))
+element-copy-out-if2-2 c = other-node-in (line (c .before .before .before .before .before .before .before .before .before))
 
 mul-put-line : tie.Need-mul-put-line
 mul-put-line c = search needs
@@ -62,7 +62,7 @@ shared-slice-read-put-line : tie.Need-shared-slice-read-put-line
 shared-slice-read-put-line c = search needs
 
 mul-put-line-2 : tie.Need-mul-put-line-2
-mul-put-line-2 c = omega (arith, line (c .before .before .before .before .before .before .before .before .before .before .before .before))
+mul-put-line-2 c = width-fits _ (line (c .before .before .before .before .before .before .before .before .before .before .before .before) .few)
 
 put-line-requires : tie.Need-put-line-requires
 put-line-requires c κs =

@@ -1,10 +1,11 @@
 -- `grouping::joining::join_between` meets its contract. The loop's invariant: two known levels, of which only the coarser has the two
 -- devices in one group. The measure is what the finer has more of groups. Assumes nothing.
 use Prim.Native.Nat.{_-_, _<_}
-use native.Mathlib.Omega.{arith}
+use native.Mathlib.Nat.{lt-of-lt-of-le}
 use Rattle.rules.specs.Plant.{plantOf}
 use Rattle.rules.proofs.RefusalLaws.{accepted-sound}
 use Rattle.grouping.specs.declared.level.Level.{Level}
+use Rattle.grouping.proofs.FitLaws.{device-at, gap-lower, gap-upper}
 use Rattle.grouping.proofs.JoinCalls.{Parted, turn-apart, turn-between, turn-last, turn-fewer, turn-upper, turn-lower}
 use Rattle.grouping.proofs.joining.join_between.Statement.{statement}
 use Rattle.grouping.proofs.joining.join_between.Tie as tie
@@ -53,19 +54,19 @@ middle c = c .before .before .before .before .level-between .result
 
 -- both devices are entries of its labels
 one-entry : (c : tie.After-labels Inv-loop μ-loop) → start (head c) .args .one < 128
-one-entry c = omega (arith, start (head c) .pre .0 .0 .most-devices, start (head c) .pre .0 .1)
+one-entry c = lt-of-lt-of-le (start (head c) .pre .0 .1) (start (head c) .pre .0 .0 .most-devices)
 
 other-entry : (c : tie.After-labels Inv-loop μ-loop) → start (head c) .args .other < 128
-other-entry c = omega (arith, start (head c) .pre .0 .0 .most-devices, start (head c) .pre .0 .2)
+other-entry c = lt-of-lt-of-le (start (head c) .pre .0 .2) (start (head c) .pre .0 .0 .most-devices)
 
 mul-if2 : tie.Need-mul-if2 Inv-loop μ-loop
-mul-if2 c = omega (arith, one-entry c)
+mul-if2 c = device-at _ (one-entry c)
 
 array-read-if2 : tie.Need-array-read-if2 Inv-loop μ-loop
 array-read-if2 c = one-entry c
 
 mul-if2-2 : tie.Need-mul-if2-2 Inv-loop μ-loop
-mul-if2-2 c = omega (arith, other-entry c)
+mul-if2-2 c = device-at _ (other-entry c)
 
 array-read-if2-2 : tie.Need-array-read-if2-2 Inv-loop μ-loop
 array-read-if2-2 c = other-entry c
@@ -77,7 +78,7 @@ fewer c =
     (c .before .before .before .before .level-between .ensures) (c .before .if1 .left)
 
 loop-less : tie.Need-loop-less Inv-loop μ-loop
-loop-less c = omega (arith, fewer (c .before))
+loop-less c = gap-upper (fewer (c .before))
 
 loop-again : tie.Need-loop-again Inv-loop μ-loop
 loop-again c =
@@ -85,7 +86,7 @@ loop-again c =
     (c .before .before .before .before .before .level-between .ensures) (c .before .before .if1 .left) (c .if2 .taken)
 
 loop-less-2 : tie.Need-loop-less-2 Inv-loop μ-loop
-loop-less-2 c = omega (arith, fewer (c .before))
+loop-less-2 c = gap-lower (fewer (c .before))
 
 loop-again-2 : tie.Need-loop-again-2 Inv-loop μ-loop
 loop-again-2 c =

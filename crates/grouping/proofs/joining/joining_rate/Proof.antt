@@ -1,9 +1,10 @@
 -- `grouping::joining::joining_rate` meets its contract: the levels at the largest and at the least rate tell whether the two devices ever
 -- join, and between them the search finds where. Assumes nothing.
 use Prim.Native.Nat.{_<_}
-use native.Mathlib.Omega.{arith}
+use native.Mathlib.Nat.{lt-of-lt-of-le}
 use borrow.Author.Needs.{needs}
 use Rattle.rules.proofs.RangeLaws.{least-accepted, largest-accepted}
+use Rattle.grouping.proofs.FitLaws.{device-at}
 use Rattle.grouping.proofs.JoinCalls.{join-refused, join-pair, join-never, start-parted, join-answered}
 use Rattle.grouping.proofs.joining.joining_rate.Statement.{statement}
 use Rattle.grouping.proofs.joining.joining_rate.Tie as tie
@@ -27,21 +28,21 @@ start c = c .before .before .before .before .before .before .before .before .bef
 one-entry : (c : tie.After-labels) → start c .args .one < 128
 one-entry c =
     let pair = join-pair _ _ _ _ _ _ (c .before .before .before .before .before .check-pair .ensures) (c .before .before .before .if1 .left) in
-    omega (arith, pair .accepted .most-devices, pair .first)
+    lt-of-lt-of-le (pair .first) (pair .accepted .most-devices)
 
 other-entry : (c : tie.After-labels) → start c .args .other < 128
 other-entry c =
     let pair = join-pair _ _ _ _ _ _ (c .before .before .before .before .before .check-pair .ensures) (c .before .before .before .if1 .left) in
-    omega (arith, pair .accepted .most-devices, pair .second)
+    lt-of-lt-of-le (pair .second) (pair .accepted .most-devices)
 
 mul-if2 : tie.Need-mul-if2
-mul-if2 c = omega (arith, one-entry c)
+mul-if2 c = device-at _ (one-entry c)
 
 array-read-if2 : tie.Need-array-read-if2
 array-read-if2 c = one-entry c
 
 mul-if2-2 : tie.Need-mul-if2-2
-mul-if2-2 c = omega (arith, other-entry c)
+mul-if2-2 c = device-at _ (other-entry c)
 
 array-read-if2-2 : tie.Need-array-read-if2-2
 array-read-if2-2 c = other-entry c

@@ -1,7 +1,7 @@
 -- `text::listing::put_group` meets its contract: four words are written one after the other.
 -- Assumes nothing.
 use Prim.Native.Nat.{ℕ, suc, _-_}
-use mathlib.Core.Path.{_≡_}
+use mathlib.Core.Path.{_≡_, _∙_}
 use mathlib.Core.List.{List, [], _∷_, append-nil}
 use borrow.Author.Needs.{needs}
 use Rattle.text.specs.Numbers.{digits}
@@ -65,7 +65,11 @@ put-requires c κs =
     left-room (left-then (left-then (one (at-two .before .before .before .before .before .before)) (at-two .put-field2 .ensures)) (at-three .put-others .ensures))
 
 same-length : tie.Need-same-length
-same-length c = search needs
+same-length c =
+    let at-four = c .before .before in
+    let at-three = at-four .before .before .before .before .before in
+    let at-two = at-three .before .before .before .before in
+    at-four .put .kept .0 ∙ at-three .put-others .kept .0 ∙ at-two .put-field2 .kept .0 ∙ at-two .before .before .before .before .before .before .put-field .kept .0
 
 returns : tie.Need-returns
 returns c =

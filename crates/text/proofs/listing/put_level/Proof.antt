@@ -1,7 +1,7 @@
 -- `text::listing::put_level` meets its contract: four words are written one after the other.
 -- Assumes nothing.
 use Prim.Native.Nat.{ℕ}
-use mathlib.Core.Path.{ap}
+use mathlib.Core.Path.{ap, _∙_}
 use mathlib.Core.List.{List, [], _∷_}
 use borrow.Author.Needs.{needs}
 use Rattle.text.specs.Lines.{newline, fieldText}
@@ -81,7 +81,11 @@ put-groups-requires c κs =
     (at-three .before .before .before .before .before .before .before .before .before .before .before .before .before .before .before .before .before .pre .0, left-room (three at-three))
 
 same-length : tie.Need-same-length
-same-length c = search needs
+same-length c =
+    let at-put-groups = c .before .before in
+    let at-three = at-put-groups .before .before .before .before in
+    let at-two = at-three .before .before .before .before .before .before .before in
+    at-put-groups .put-groups .kept .0 ∙ at-three .put-field2 .kept .0 ∙ at-two .put-low .kept .0 ∙ at-two .before .before .before .before .put-field .kept .0
 
 returns : tie.Need-returns
 returns c = let at-put-groups = c .before .before in left-none (left-then (three (at-put-groups .before .before .before .before)) (at-put-groups .put-groups .ensures))

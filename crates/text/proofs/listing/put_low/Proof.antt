@@ -1,6 +1,6 @@
 -- `text::listing::put_low` meets its contract: the numbers of the low rate are written one after the other, or the line that says that there is none.
 -- Assumes nothing.
-use mathlib.Core.Path.{_≡_}
+use mathlib.Core.Path.{_≡_, _∙_}
 use mathlib.Core.Bool.{true}
 use mathlib.Core.List.{[], _∷_}
 use borrow.Author.Needs.{needs}
@@ -39,7 +39,7 @@ put-field-requires-2 c κs =
     left-room (left-then (none (at-then .before .before) (at-then .if1 .taken)) (at-put-field .put-field .ensures))
 
 same-length : tie.Need-same-length
-same-length c = search needs
+same-length c = let at-put-field2 = c .before .before in at-put-field2 .put-field2 .kept .0 ∙ at-put-field2 .before .before .before .before .before .before .put-field .kept .0
 
 returns : tie.Need-returns
 returns c =
@@ -58,7 +58,7 @@ put-requires c κs =
     rw (at-else .if1 .left) at (at-else .before .before .pre)
 
 same-length-2 : tie.Need-same-length-2
-same-length-2 c = search needs
+same-length-2 c = c .before .before .put .kept .0
 
 returns-2 : tie.Need-returns-2
 unfolding lowText

@@ -1,5 +1,6 @@
 -- `text::listing::put_refusal` meets its contract: two fields are written one after the other.
 -- Assumes nothing.
+use mathlib.Core.Path.{_∙_}
 use mathlib.Core.List.{[], _∷_}
 use borrow.Author.Needs.{needs}
 use Rattle.text.specs.Lines.{newline, fieldText}
@@ -34,7 +35,7 @@ put-field-requires-2 c κs =
     left-room (left-then (none (at-put-field .before .before .before .before .before)) (at-put-field .put-field .ensures))
 
 same-length : tie.Need-same-length
-same-length c = search needs
+same-length c = let at-put-field2 = c .before .before in at-put-field2 .put-field2 .kept .0 ∙ at-put-field2 .before .before .before .before .before .before .put-field .kept .0
 
 returns : tie.Need-returns
 returns c =

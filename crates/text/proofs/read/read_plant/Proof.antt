@@ -180,13 +180,13 @@ fill-requires-3 c κs =
     rw (known-length (known at-known) _ (known at-known .signals)) (room-third _ _ _ _ (room at-room))
 
 same-length : tie.Need-same-length
-same-length c = search needs
+same-length c = c .before .before .before .before .before .before .before .before .before .before .before .before .fill .kept .0
 
 same-length-2 : tie.Need-same-length-2
-same-length-2 c = search needs
+same-length-2 c = c .before .before .before .before .before .before .before .fill2 .kept .0
 
 same-length-3 : tie.Need-same-length-3
-same-length-3 c = search needs
+same-length-3 c = c .before .before .fill3 .kept .0
 
 returns-5 : tie.Need-returns-5
 returns-5 c =

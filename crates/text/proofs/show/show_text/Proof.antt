@@ -36,7 +36,7 @@ put-refusal-requires c κs =
     omega (arith, refused-most (at-read-plant .read-plant .result .number) (at-read-plant .read-plant .result .place), start .pre)
 
 same-length : tie.Need-same-length
-same-length c = search needs
+same-length c = c .before .before .put-refusal .kept .0
 
 returns : tie.Need-returns
 returns c =
@@ -69,7 +69,7 @@ show-plant-requires c κs =
     (text-accepts refl refl refl (at-if1 .before .before .before .before .before .read-plant .ensures) (at-if1 .if1 .left), start .pre)
 
 same-length-2 : tie.Need-same-length-2
-same-length-2 c = search needs
+same-length-2 c = c .before .before .show-plant .kept .1 .1 .1 .1 .0
 
 returns-2 : tie.Need-returns-2
 returns-2 c =

@@ -1,5 +1,6 @@
 -- `text::write::put_row` meets its contract: three fields are written one after the other.
 -- Assumes nothing.
+use mathlib.Core.Path.{_∙_}
 use mathlib.Core.List.{[], _++_}
 use borrow.Author.Needs.{needs}
 use Rattle.text.specs.Lines.{lineKey, comma, newline, fieldText, rowText}
@@ -56,7 +57,10 @@ put-field-requires-3 c κs =
     wrote-room (start .args .bytes .now) (start .args .at) ((fieldText lineKey comma (start .args .a)) ++ (fieldText [] comma (start .args .b))) (fieldText [] newline (start .args .s)) (start .pre) (two at-two)
 
 same-length : tie.Need-same-length
-same-length c = search needs
+same-length c =
+    let at-put-field3 = c .before .before in
+    let at-two = at-put-field3 .before .before .before .before .before .before in
+    at-put-field3 .put-field3 .kept .0 ∙ at-two .put-field2 .kept .0 ∙ at-two .before .before .before .before .before .before .put-field .kept .0
 
 returns : tie.Need-returns
 unfolding rowText

@@ -58,7 +58,7 @@ put-plant-requires : tie.Need-put-plant-requires
 put-plant-requires c κs = let a = right-accepted (c .before .before .before .before .before .before .before .before .before .before .before .before .args .n) (c .before .before .before .before .before .before .before .before .before .before .before .before .args .firsts .now) (c .before .before .before .before .before .before .before .before .before .before .before .before .args .seconds .now) (c .before .before .before .before .before .before .before .before .before .before .before .before .args .signals .now) (c .before .before .before .before .before .before .before .before .before .before .before .before .args .bytes .now) (c .before .before .before .before .before .before .before .check-plant .ensures) (c .before .before .before .before .before .if1 .left) in ((a .one-length, a .one-length′), rw (sym (counted (c .before .before))) (c .before .if2 .left))
 
 same-length : tie.Need-same-length
-same-length c = search needs
+same-length c = c .before .before .put-plant .kept .1 .1 .1 .1 .0
 
 returns-3 : tie.Need-returns-3
 returns-3 c =
