@@ -7,6 +7,7 @@ use crate::row;
 use cut::community::Answer;
 use cut::community::community;
 use cut::owners::owners;
+use rules::DEVICES;
 
 // What the call answers beside the marks.
 fn answered(r: Answer, expected: &[u8]) -> Line {
@@ -56,7 +57,7 @@ pub fn made(list: &[usize; 64], expected: &[u8]) -> Line {
         &mut seconds,
         &mut signals,
     );
-    let mut marks = [7u8; 128];
+    let mut marks = [7u8; DEVICES];
     let r = community(
         n,
         row::part(&firsts, row::entry(list, 5)),

@@ -6,6 +6,7 @@ use crate::rates;
 use crate::row;
 use grouping::grouping::Grouping;
 use grouping::grouping::groups_at;
+use rules::DEVICES;
 
 // What the call answers beside the labels.
 fn answered(r: Grouping, expected: &[u8]) -> Line {
@@ -53,7 +54,7 @@ pub fn made(list: &[usize; 64], expected: &[u8]) -> Line {
         &mut seconds,
         &mut signals,
     );
-    let mut labels = [777; 128];
+    let mut labels = [777; DEVICES];
     let r = groups_at(
         n,
         row::part(&firsts, row::entry(list, 4)),

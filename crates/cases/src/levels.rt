@@ -9,6 +9,8 @@ use grouping::hierarchy::hierarchy;
 use grouping::joining::Joining;
 use grouping::joining::joining_rate;
 use grouping::row::check_row;
+use rules::DEVICES;
+use rules::LINES;
 use text::read::read_plant;
 
 // An entry before the call, where it is not printed: more than any number that is filled in.
@@ -149,8 +151,8 @@ fn whole(
     expected: &[u8],
 ) -> Line {
     let mut labels = [BLANK; 16384];
-    let mut low_p = [BLANK; 128];
-    let mut low_q = [BLANK; 128];
+    let mut low_p = [BLANK; DEVICES];
+    let mut low_q = [BLANK; DEVICES];
     let r = hierarchy(
         n,
         firsts,
@@ -194,9 +196,9 @@ pub fn told(case: &[u8], list: &[usize; 64], expected: &[u8]) -> Line {
     let text = row::rest(case, row::find(case, 0, b'p'), 0);
     let mut bytes = [0; 4096];
     texts::spell(text, &mut bytes, 0);
-    let mut firsts = [0; 1024];
-    let mut seconds = [0; 1024];
-    let mut signals = [0; 1024];
+    let mut firsts = [0; LINES];
+    let mut seconds = [0; LINES];
+    let mut signals = [0; LINES];
     let r = read_plant(
         row::head(&bytes, text.len()),
         &mut firsts,

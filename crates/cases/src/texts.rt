@@ -3,6 +3,7 @@ use crate::plants;
 use crate::print;
 use crate::print::Line;
 use crate::row;
+use rules::LINES;
 use text::Reading;
 use text::read::read_plant;
 use text::write::write_plant;
@@ -81,9 +82,9 @@ fn read_in(bytes: &[u8], expected: &[u8]) -> Line {
 
 // Reading into lists of 1,024 entries.
 fn read_back(bytes: &[u8], expected: &[u8]) -> Line {
-    let mut firsts = [0; 1024];
-    let mut seconds = [0; 1024];
-    let mut signals = [0; 1024];
+    let mut firsts = [0; LINES];
+    let mut seconds = [0; LINES];
+    let mut signals = [0; LINES];
     let r = read_plant(bytes, &mut firsts, &mut seconds, &mut signals);
     back(
         answered(r, expected),
@@ -113,9 +114,9 @@ pub fn long(list: &[usize; 64], case: &[u8], expected: &[u8]) -> Line {
 
 // A plant made by a rule, written and read back: reach, devices, lines, the signals of each line. Answers what reading does, and whether it is written back as it was.
 pub fn full(list: &[usize; 64], expected: &[u8]) -> Line {
-    let mut firsts = [0; 1024];
-    let mut seconds = [0; 1024];
-    let mut signals = [0; 1024];
+    let mut firsts = [0; LINES];
+    let mut seconds = [0; LINES];
+    let mut signals = [0; LINES];
     let n = row::entry(list, 1);
     let lines = row::entry(list, 2);
     plants::fill(
@@ -141,9 +142,9 @@ pub fn full(list: &[usize; 64], expected: &[u8]) -> Line {
 
 // The text of 1,024 lines with one row more, and another stated number of lines of four digits.
 pub fn surplus(case: &[u8], expected: &[u8]) -> Line {
-    let mut firsts = [0; 1024];
-    let mut seconds = [0; 1024];
-    let mut signals = [0; 1024];
+    let mut firsts = [0; LINES];
+    let mut seconds = [0; LINES];
+    let mut signals = [0; LINES];
     plants::fill(128, 9, 1, 0, &mut firsts, &mut seconds, &mut signals);
     let mut bytes = [0; 32768];
     let w = write_plant(128, &firsts, &seconds, &signals, &mut bytes);
