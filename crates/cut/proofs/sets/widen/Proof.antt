@@ -26,7 +26,7 @@ shared-slice-read-widths : tie.Need-shared-slice-read-widths Inv-loop μ-loop
 shared-slice-read-widths c = search needs
 
 mul-widths-2 : tie.Need-mul-widths-2 Inv-loop μ-loop
-mul-widths-2 c = omega (arith, mul-le-mul (c .before .before .before .pre .0 .1) (c .before .before .before .pre .1 (c .before .before .loop .l) (c .before .loop-test .taken)))
+mul-widths-2 c = omega (arith, c .before .before .before .pre .1 (c .before .before .loop .l) (c .before .loop-test .taken), mul-le-mul (c .before .before .before .pre .0 .1) (c .before .before .before .pre .1 (c .before .before .loop .l) (c .before .loop-test .taken)))
 
 mul-widths-3 : tie.Need-mul-widths-3 Inv-loop μ-loop
 mul-widths-3 c = search needs
