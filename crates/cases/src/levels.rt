@@ -150,6 +150,7 @@ fn whole(
     k: usize,
     expected: &[u8],
 ) -> Line {
+    // n × n labels of at most 128 devices
     let mut labels = [BLANK; 16384];
     let mut low_p = [BLANK; DEVICES];
     let mut low_q = [BLANK; DEVICES];

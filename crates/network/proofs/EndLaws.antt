@@ -1,4 +1,4 @@
--- The ends of a line: whether a device is one, the other end, and the spare out of it.
+-- The ends of a line: whether a node is one, the other end, and the spare out of it.
 -- Assumes nothing.
 use Prim.Native.Nat.{ℕ}
 use mathlib.Core.Path.{_≡_}
@@ -9,7 +9,7 @@ use lib.Dec.{eqb}
 use lib.ListN.{getD}
 use Rattle.network.specs.Search.{touches, farEnd, spareFrom}
 
--- whether a device is an end of line l
+-- whether a node is an end of line l
 module _ (xs ys : List ℕ) (l v : ℕ) where
   pub touches-first : getD xs l 0 ≡ v → touches xs ys l v ≡ true
   unfolding touches

@@ -1,9 +1,9 @@
--- The index of each device's lines, with one line more.
---     before-none, before-kept, before-new    the last line of a device among none, with a line that does not touch it, with one that does
---     lasts-none, lasts-step                  the last line of each device
+-- The index of each node's lines, with one line more.
+--     before-none, before-kept, before-new    the last line of a node among none, with a line that does not touch it, with one that does
+--     lasts-none, lasts-step                  the last line of each node
 --     priors-none, priors-step                of each line the one before it, of its first and of its second end
 --     before-first, before-second             the line before line l of one of its ends
---     touches-..                              whether a device is an end of a line
+--     touches-..                              whether a node is an end of a line
 -- Assumes nothing.
 use Prim.Native.Nat.{ℕ, _+_, _≤_, _<_}
 use mathlib.Core.Path.{_≡_, sym}

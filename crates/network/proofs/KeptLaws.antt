@@ -1,4 +1,4 @@
--- The queue after a send: how much of the search's state stays true. A spare that grew leads from a device of the queue to one at an earlier place, and only the lines of the way lost something. So where every line of the way has something to spare still, the drain of the device that was found is gone, and the search goes on where it stands (scan-kept); and else it goes on behind the line of the first place of the way whose line has nothing to spare, with the places before that one (scan-cut).
+-- The queue after a send: how much of the search's state stays true. A spare that grew leads from a node of the queue to one at an earlier place, and only the lines of the way lost something. So where every line of the way has something to spare still, the drain of the node that was found is gone, and the search goes on where it stands (scan-kept); and else it goes on behind the line of the first place of the way whose line has nothing to spare, with the places before that one (scan-cut).
 -- Assumes nothing.
 use Prim.Native.Nat.{ℕ, _+_, _-_, _≤_, _<_}
 use mathlib.Core.Path.{_≡_, sym, _∙_}
@@ -23,7 +23,7 @@ module _ {xs ys fs rs : List ℕ} {d : ℕ} {nodes vias froms marks : List ℕ} 
       same : {v w : ℕ} → v ≡ w → getD marks w 0 ≡ 1 → getD marks v 0 ≡ 1
       same e m = rw e m
 
-  -- the line by which place j came leads from a device of the queue, if not from the one that it came from, to an earlier place
+  -- the line by which place j came leads from a node of the queue, if not from the one that it came from, to an earlier place
   leads-back : (p : ℕ) → p < count → (j : ℕ) → 1 ≤ j → j < count → touches xs ys (getD vias j 0) (getD nodes p 0) ≡ true
       → (getD nodes p 0 ≡ getD nodes (getD froms j 0) 0 → ⊥) → (q : ℕ) × (q < p) × (getD nodes q 0 ≡ farEnd xs ys (getD vias j 0) (getD nodes p 0))
   leads-back p b j m c t n =
@@ -90,7 +90,7 @@ module _ {xs ys fs rs ws : List ℕ} {d : ℕ} {nodes vias froms marks : List �
   tree : Tree xs ys fs rs d nodes vias froms marks count
   tree = found .covered .tree
 
-  -- the devices before the one that was found are dry
+  -- the nodes before the one that was found are dry
   dry-before : (j : ℕ) → j + 1 < count → getD (set ws (getD nodes (count - 1) 0) left) (getD nodes j 0) 0 ≡ 0
   dry-before j m =
       rw (getD-set-other ws (getD nodes (count - 1) 0) (getD nodes j 0) left 0 (λ e. omega (arith, tree .way .once j (count - 1) (omega arith) (omega arith) e)))

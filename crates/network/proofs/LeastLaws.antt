@@ -62,7 +62,7 @@ led-found found = record {
   wet = found .wet;
 }
 
--- the last device in the queue, and the way to it
+-- the last node in the queue, and the way to it
 module _ {xs ys fs rs ws : List ℕ} {d : ℕ} {nodes vias froms : List ℕ} {count : ℕ} (led : Led xs ys fs rs ws d nodes vias froms count) where
   pub led-last : count ≡ count - 1 + 1
   led-last = omega (arith, led .some)

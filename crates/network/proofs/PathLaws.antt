@@ -1,7 +1,7 @@
 -- The way back from a place of the queue to place 0, and what goes along it.
---     far-two, far-other                the far ends of two devices of one line
+--     far-two, far-other                the far ends of two nodes of one line
 --     over-sent                         what goes over one line out of one of its ends has gone to the other end
---     sent-none, sent-on                nothing has gone from a device to itself; what went on to a place went on from the place before
+--     sent-none, sent-on                nothing has gone from a node to itself; what went on to a place went on from the place before
 --     clear-spare, clear-rest            the last line of a way with something to spare, and the way before it
 --     clear-kept                        what goes over the last line of a way leaves the way before it as clear as it was
 --     Narrow, narrow-start, -step, -end    the least spare on the way, found from its end back to place 0
@@ -26,7 +26,7 @@ use Rattle.network.proofs.EndLaws.{touches-other, far-first, far-second
 use Rattle.network.specs.Search.{passing, linesLeave, spareFrom, spareTo, farEnd, touches, Way, Clear, start, onward, On, here, back, forthAfter, backAfter, Sent, Kept}
 use Rattle.rules.specs.Cut.{Devices}
 
--- of two devices that a line touches, the far ends are the same, or the second is the far end of the first
+-- of two nodes that a line touches, the far ends are the same, or the second is the far end of the first
 pub far-two : (xs ys : List ℕ) (l u v : ℕ) → touches xs ys l u ≡ true → touches xs ys l v ≡ true
     → (farEnd xs ys l u ≡ farEnd xs ys l v) ⊎ (farEnd xs ys l u ≡ v)
 far-two xs ys l u v s t = go (ℕ-discrete (getD xs l 0) u) (ℕ-discrete (getD xs l 0) v)
@@ -68,7 +68,7 @@ kept-both false f r δ h = omega arith
 abbrev over : List ℕ → List ℕ → List ℕ → List ℕ → Devices → ℕ → ℕ
 over xs ys fs rs T k = passing (T (getD xs k 0)) (T (getD ys k 0)) (getD fs k 0) (getD rs k 0)
 
--- δ goes over line l out of device u
+-- δ goes over line l out of node u
 module _ (xs fs rs : List ℕ) (l u δ : ℕ) where
   forth-same : l < length fs → getD (forthAfter xs fs l u δ) l 0 ≡ cond (eqb (getD xs l 0) u) (getD fs l 0 - δ) (getD fs l 0 + δ)
   unfolding forthAfter
@@ -312,7 +312,7 @@ module _ (xs ys fs₀ rs₀ nodes vias froms : List ℕ) (last δ : ℕ) where
       line : getD vias j 0 < length xs
       line = way .line j o going-below
 
-      -- out of the device that place j came from the spare over its line falls
+      -- out of the node that place j came from the spare over its line falls
       falls : (l u : ℕ) → l ≡ getD vias j 0 → u ≡ getD nodes (getD froms j 0) 0 → spareFrom xs forth′ back′ l u ≤ spareFrom xs fs rs l u
       falls l u d e = rw (d, e, spare-same xs fs rs (getD vias j 0) (getD nodes (getD froms j 0) 0) δ (omega (arith, line)) (omega (arith, line))) (omega arith)
 

@@ -1,4 +1,4 @@
--- A search on plain lists: how its tree begins and grows by a device, and how it goes on by a line, by a device, and over the lines that are not the device's.
+-- A search on plain lists: how its tree begins and grows by a node, and how it goes on by a line, by a node, and over the lines that are not the node's.
 -- Assumes nothing.
 use Prim.Native.Nat.{ℕ, _+_, _-_, _≤_, _<_}
 use mathlib.Core.Path.{_≡_, refl, sym, _∙_}
@@ -25,7 +25,7 @@ below-or-not i j = elim (decLt i j) [ yes h ↦ inl h | no h ↦ inr (omega arit
 last-or-before : (j k : ℕ) → j < k + 1 → (j < k) ⊎ (j ≡ k)
 last-or-before j k l = ⊎-elim inl (λ h. inr (omega arith)) (below-or-not j k)
 
--- ---- the far end of a line is a device
+-- ---- the far end of a line is a node
 pub far-device : {xs ys : List ℕ} (l u : ℕ) → Laid xs ys → l < length xs → farEnd xs ys l u < 128
 unfolding farEnd
 far-device {xs} {ys} l u laid m = go (eqb (getD xs l 0) u)
@@ -59,7 +59,7 @@ module _ {xs ys fs rs : List ℕ} {d : ℕ} {nodes vias froms marks : List ℕ} 
   pub tree-marks : Marks nodes marks count
   tree-marks = record { once = tree .way .once; device = tree .device; marked = tree .marked; listed = tree .listed; counted = tree .counted }
 
--- ---- a queue shorter by its last device
+-- ---- a queue shorter by its last node
 module _ {nodes marks : List ℕ} (j : ℕ) (all : Marks nodes marks (j + 1)) (size : length marks ≡ 128) where
   last-device : getD nodes j 0 < 128
   last-device = all .device j (omega arith)
@@ -83,7 +83,7 @@ module _ {nodes marks : List ℕ} (j : ℕ) (all : Marks nodes marks (j + 1)) (s
       before : (v : ℕ) → (v ≡ getD nodes j 0 → ⊥) → ((i : ℕ) × (i < j + 1) × (getD nodes i 0 ≡ v)) → (i : ℕ) × (i < j) × (getD nodes i 0 ≡ v)
       before v n w = ⊎-elim (λ b. (w .0, b, w .2)) (λ e. absurd (n (sym (w .2) ∙ rw e))) (last-or-before (w .0) j (w .1))
 
--- ---- a search that has found a device with drain left, or can go on
+-- ---- a search that has found a node with drain left, or can go on
 pub record Ready (xs ys fs rs ws : List ℕ) (d : ℕ) (nodes vias froms marks : List ℕ) (found : Bool) (count h rest : ℕ) : Type 0 where
   pub none : found ≡ false → Standing xs ys fs rs ws d nodes vias froms marks count h rest
   pub some : found ≡ true → Found xs ys fs rs ws d nodes vias froms marks count h rest
@@ -93,7 +93,7 @@ pub ready-standing : {xs ys fs rs ws : List ℕ} {d : ℕ} {nodes vias froms mar
     → Ready xs ys fs rs ws d nodes vias froms marks false count h rest
 ready-standing standing = record { none = λ e. standing; some = λ e. absurd (false≢true e); ahead = λ e. absurd (false≢true e) }
 
--- ---- a tree of one device
+-- ---- a tree of one node
 -- the marks that begin it
 pub marks-begin : (d : ℕ) → d < 128 → (v : ℕ) → v < 128 → getD {A = ℕ} (set (replicate 128 0) d 1) v 0 ≡ cond (eqb v d) 1 0
 marks-begin d l v m = ⊎-elim (λ e. rw (eq-eqb v d e) (rw e (getD-set-same (replicate 128 0) d 1 0 (rw length-replicate l)))) (λ n. rw (ne-eqb v d n) (getD-set-other (replicate 128 0) d v 1 0 n ∙ getD-replicate 128 v 0 0 m)) (same-or-not v d)
@@ -149,8 +149,8 @@ module _ (xs ys fs rs : List ℕ) (d : ℕ) (nodes vias froms marks : List ℕ) 
     pub ready-begin : {found : Bool} → (found ≡ false → getD ws d 0 ≡ 0) → (found ≡ true → 1 ≤ getD ws d 0) → Ready xs ys fs rs ws d nodes vias froms marks found 1 0 rest
     ready-begin dry wet = record { none = λ e. begin-standing (dry e); some = λ e. begin-found (wet e); ahead = λ e. begin-rest }
 
--- ---- a tree grows by a device
--- line l, which has something to spare, leads from the device at place h to device w, which is not marked
+-- ---- a tree grows by a node
+-- line l, which has something to spare, leads from the node at place h to node w, which is not marked
 pub record Leads (xs ys fs rs nodes marks : List ℕ) (count h l w : ℕ) : Type 0 where
   pub place : h < count
   pub line : l < length xs
@@ -159,7 +159,7 @@ pub record Leads (xs ys fs rs nodes marks : List ℕ) (count h l w : ℕ) : Type
   pub spare : 1 ≤ spareFrom xs fs rs l (getD nodes h 0)
   pub new : getD marks w 0 ≡ 0
 
--- a device at place j came by line v from place i, where device u stands
+-- a node at place j came by line v from place i, where node u stands
 record Came (xs ys fs rs : List ℕ) (i v u w j : ℕ) : Type 0 where
   parent : i < j
   line : v < length xs
@@ -223,7 +223,7 @@ module _ {xs ys fs rs : List ℕ} {d : ℕ} {nodes vias froms marks : List ℕ} 
         last : j ≡ count → CameAt xs ys fs rs (set nodes count w) (set vias count l) (set froms count h) j
         last e = rw (e, comes froms h from-size, comes vias l via-size, comes nodes w node-size, stays nodes w h (leads .place)) came-last
 
-    -- the new device is none of those before
+    -- the new node is none of those before
     apart : (i : ℕ) → i < count → getD nodes i 0 ≡ w → ⊥
     apart i m e = let z : getD marks w 0 ≡ 1 = rw (← e) (tree .marked i m) in omega (arith, leads .new)
 
@@ -236,7 +236,7 @@ module _ {xs ys fs rs : List ℕ} {d : ℕ} {nodes vias froms marks : List ℕ} 
         one : (i j : ℕ) → i < count → j ≡ count → getD (set nodes count w) i 0 ≡ getD (set nodes count w) j 0 → ⊥
         one i j a b e = apart i a (sym (stays nodes w i a) ∙ (e ∙ rw b (comes nodes w node-size)))
 
-    -- what holds of the devices before and of w holds of each
+    -- what holds of the nodes before and of w holds of each
     each : (P : ℕ → Type 0) → ((j : ℕ) → j < count → P (getD nodes j 0)) → P w → (j : ℕ) → j < count + 1 → P (getD (set nodes count w) j 0)
     each P before last j m =
         ⊎-elim (λ b. rw (stays nodes w j b) (before j b)) (λ e. rw e (rw (comes nodes w node-size) last)) (last-or-before j count m)
@@ -327,7 +327,7 @@ module _ {xs ys fs rs : List ℕ} {d : ℕ} {nodes vias froms marks : List ℕ} 
     here = λ o k m n t r. ⊎-elim (λ e. rw (← e) (old (rw e r))) (λ e. before .here o k (omega arith) n t r) (same-or-not l k);
   }
 
-  -- over the lines from t on below k, which are not the device's
+  -- over the lines from t on below k, which are not the node's
   covered-gap : {k t : ℕ} → Covered xs ys fs rs d nodes vias froms marks count h k → (h < count → Before xs ys (getD nodes h 0) k t) → Covered xs ys fs rs d nodes vias froms marks count h t
   covered-gap {k} {t} before gap = record {
     tree = before .tree;
@@ -336,7 +336,7 @@ module _ {xs ys fs rs : List ℕ} {d : ℕ} {nodes vias froms marks : List ℕ} 
     here = λ o l m n e r. ⊎-elim (λ b. absurd (false≢true (sym (gap o .gap l m b) ∙ e))) (λ b. before .here o l b n e r) (below-or-not l k);
   }
 
-  -- to the next device
+  -- to the next node
   covered-next : Covered xs ys fs rs d nodes vias froms marks count h 0 → h < count → Covered xs ys fs rs d nodes vias froms marks count (h + 1) (length xs)
   covered-next before m = record {
     tree = before .tree;
@@ -353,7 +353,7 @@ module _ {xs ys fs rs : List ℕ} {d : ℕ} {nodes vias froms marks : List ℕ} 
     pub scan-next : Scan xs ys fs rs ws d nodes vias froms marks count h 0 → h < count → Scan xs ys fs rs ws d nodes vias froms marks count (h + 1) (length xs)
     scan-next scan m = record { covered = covered-next (scan .covered) m; dry = scan .dry }
 
-    -- behind the last device
+    -- behind the last node
     pub scan-done : {k : ℕ} → Scan xs ys fs rs ws d nodes vias froms marks count h k → count ≤ h → Scan xs ys fs rs ws d nodes vias froms marks count count (length xs)
     scan-done scan b = record {
       covered = record {

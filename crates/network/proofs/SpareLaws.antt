@@ -94,7 +94,7 @@ drains-less ws e δ b c some l =
     let x : ℕ = getD ws e 0 - δ in
     omega (arith, sum-change 128 (λ v. getD ws v 0) (λ v. getD (set ws e x) v 0) e b (λ v h n. getD-set-other ws e v x 0 n), getD-set-same ws e x 0 c)
 
--- what holds of the first device in the queue and passes on along each line by which a device came holds of every device in the queue
+-- what holds of the first node in the queue and passes on along each line by which a node came holds of every node in the queue
 pub way-all : {xs ys nodes vias froms : List ℕ} {count : ℕ} → Way xs ys nodes vias froms count → (P : ℕ → Type 0)
     → P (getD nodes 0 0) → ((j : ℕ) → 1 ≤ j → j < count → P (getD nodes (getD froms j 0) 0) → P (getD nodes j 0))
     → (j : ℕ) → j < count → P (getD nodes j 0)
@@ -154,7 +154,7 @@ nodes-below {xs} {ys} {nodes} {vias} {froms} n way root first second =
     far l true b = second l b
     far l false b = first l b
 
--- the devices that are marked 1
+-- the nodes that are marked 1
 abbrev marked : List ℕ → Devices
 marked marks v = eqb (getD marks v 0) 1
 
@@ -207,7 +207,7 @@ module _ {n : ℕ} {xs ys zs ds : List ℕ} {d : ℕ} {fs rs ws : List ℕ} {nod
   marked-cost : netCost (linesOf xs ys zs) (λ v. getD ds v 0) n (marked marks) ≡ spares .sent
   marked-cost = omega (arith, spares .share (marked marks) marked-root, lines-shut, drains-shut)
 
-  -- a set that nothing can leave holds every marked device
+  -- a set that nothing can leave holds every marked node
   marked-least : (T : Devices) → T d ≡ true → linesLeave xs ys fs rs T ≡ 0 → Inside n (marked marks) T
   unfolding linesLeave
   marked-least T t none v b m =

@@ -1,4 +1,4 @@
-// An index of each device's lines. `last[v]` is one more than the last line of device v, and 0 where it has none;
+// An index of each node's lines. `last[v]` is one more than the last line of node v, and 0 where it has none;
 // `before_first[l]` and `before_second[l]` say the same of the lines below l, for the first and for the second end of line l.
 use rules::DEVICES;
 use rules::LINES;
@@ -53,7 +53,7 @@ pub fn index_lines(
     }
 }
 
-// One more than the line of device v before line l, which is one of its own, and 0 where there is none.
+// One more than the line of node v before line l, which is one of its own, and 0 where there is none.
 pub fn line_before(
     firsts: &[usize],
     seconds: &[usize],

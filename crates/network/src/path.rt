@@ -39,7 +39,7 @@ pub fn narrowest(
     most
 }
 
-// `amount` goes over line l out of device u, one of its ends.
+// `amount` goes over line l out of node u, one of its ends.
 fn send_over(
     firsts: &[usize],
     forth: &mut [usize],

@@ -1,5 +1,5 @@
-// The search: breadth first from a device over the lines with something to spare, until a device with drain left is found.
-// The queue is `node`; `via` and `from` say of each place but 0 by which line and from which place its device was reached.
+// The search: breadth first from a node over the lines with something to spare, until a node with drain left is found.
+// The queue is `node`; `via` and `from` say of each place but 0 by which line and from which place its node was reached.
 use crate::index::line_before;
 use rules::DEVICES;
 use rules::LINES;
@@ -10,7 +10,7 @@ ghost use lib.Dec.{eqb};
 ghost use Prim.Native.Nat.{ℕ, _+_, _≤_, _<_};
 ghost use Rattle.network.specs.Search.{Laid, Lasts, Priors, Marks, Scan, Found, Rest, Standing, touches, farEnd, spareFrom};
 
-// How many devices stand in the queue, and whether the last of them has drain left.
+// How many nodes stand in the queue, and whether the last of them has drain left.
 struct Seen {
     count: usize,
     found: bool,
@@ -24,7 +24,7 @@ pub struct Front {
     pub rest: usize,
 }
 
-// What can still go over line l out of device u, one of its ends.
+// What can still go over line l out of node u, one of its ends.
 pub fn spare_from(
     firsts: &[usize],
     forth: &[usize; LINES],
@@ -41,7 +41,7 @@ pub fn spare_from(
     back[l]
 }
 
-// The other end of line l of device u.
+// The other end of line l of node u.
 fn far_end(firsts: &[usize], seconds: &[usize], l: usize, u: usize) -> usize
     requires { ⌜ (l < length (now firsts)) × (length (now firsts) ≡ length (now seconds)) ⌝ }
     ensures { λ r. ⌜ r ≡ farEnd (now (firsts .entry)) (now (seconds .entry)) l u ⌝ }
@@ -60,7 +60,7 @@ pub fn put(list: &mut [usize], i: usize, x: usize)
     list[i] = x;
 }
 
-// Device v is marked.
+// Node v is marked.
 fn tick(mark: &mut [u8], v: usize)
     requires { ⌜ v < length (now mark) ⌝ }
     ensures { λ _. ⌜ now (mark .exit) ≡ set (now (mark .entry)) v 1 ⌝ }
@@ -68,7 +68,7 @@ fn tick(mark: &mut [u8], v: usize)
     mark[v] = 1;
 }
 
-// The devices from place `cut` on are no longer reached.
+// The nodes from place `cut` on are no longer reached.
 pub fn unmark(node: &[usize; DEVICES], mark: &mut [u8], cut: usize, count: usize)
     requires { ⌜ (cut ≤ count) × (count ≤ 128) × (length (now mark) ≡ 128) ⌝ }
     requires { ⌜ Marks (now node) (now mark) count ⌝ }
@@ -82,7 +82,7 @@ pub fn unmark(node: &[usize; DEVICES], mark: &mut [u8], cut: usize, count: usize
     }
 }
 
-// Line l of the device at place h is looked at: what it leads to is reached.
+// Line l of the node at place h is looked at: what it leads to is reached.
 fn look(
     firsts: &[usize],
     seconds: &[usize],
@@ -135,7 +135,7 @@ fn look(
     }
 }
 
-// The lines of the device at place h are looked at, from line `resting` − 1 on, until a device with drain left is reached.
+// The lines of the node at place h are looked at, from line `resting` − 1 on, until a node with drain left is reached.
 fn spread(
     firsts: &[usize],
     seconds: &[usize],
@@ -198,7 +198,7 @@ fn spread(
     }
 }
 
-// One more than the last line of the device at place h, and 0 where none stands there.
+// One more than the last line of the node at place h, and 0 where none stands there.
 fn last_line(last: &[usize; DEVICES], node: &[usize; DEVICES], count: usize, h: usize) -> usize
     requires { ⌜ (count ≤ 128) × (h < count → getD (now node) h 0 < 128) ⌝ }
     ensures { λ r. ⌜ (h < count → r ≡ getD (now (last .entry)) (getD (now (node .entry)) h 0) 0) ⌝ }
@@ -211,7 +211,7 @@ fn last_line(last: &[usize; DEVICES], node: &[usize; DEVICES], count: usize, h: 
     last[u]
 }
 
-// The search goes on where it stands, until a device with drain left is reached; where none is, all that can be reached is marked.
+// The search goes on where it stands, until a node with drain left is reached; where none is, all that can be reached is marked.
 fn go_on(
     firsts: &[usize],
     seconds: &[usize],
@@ -270,7 +270,7 @@ fn go_on(
     }
 }
 
-// Device d alone is reached: it stands at place 0, and it alone is marked.
+// Node d alone is reached: it stands at place 0, and it alone is marked.
 fn begin(
     last: &[usize; DEVICES],
     drain: &[usize; DEVICES],
@@ -296,7 +296,7 @@ fn begin(
     }
 }
 
-// Whether a device with drain left can be reached from d; where none can, all that can be reached is marked. The search goes on where it
+// Whether a node with drain left can be reached from d; where none can, all that can be reached is marked. The search goes on where it
 // stands, and begins where its queue is empty.
 pub fn search(
     firsts: &[usize],

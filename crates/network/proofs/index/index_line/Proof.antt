@@ -9,7 +9,7 @@ use Rattle.network.proofs.IndexLaws.{lasts-step, priors-step}
 use Rattle.network.proofs.index.index_line.Statement.{statement}
 use Rattle.network.proofs.index.index_line.Tie as tie
 
--- both ends are devices
+-- both ends are nodes
 first-below : (c : tie.Start) → getD (now (c .args .firsts)) (c .args .k) 0 < 128
 first-below c = c .pre .0 .first (c .args .k) (c .pre .1 .0)
 

@@ -13,7 +13,7 @@ use borrow.Author.Needs.{needs}
 use Rattle.network.proofs.least.advance.Statement.{statement}
 use Rattle.network.proofs.least.advance.Tie as tie
 
--- the last device in the queue
+-- the last node in the queue
 end-below : (s : tie.Start) → getD (now (s .args .node)) (s .args .count - 1) 0 < 128
 end-below s = s .pre .1 .0 .device (s .args .count - 1) (omega (arith, s .pre .1 .0 .some))
 

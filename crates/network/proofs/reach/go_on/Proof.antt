@@ -33,7 +33,7 @@ returns c =
     let found = c .before .spread .ensures .1 in
     ((λ e. absurd (true≢false (sym (c .if1 .taken) ∙ e))), ((λ e. rw (← inv .scan .covered .tree .root) (found .0 (c .if1 .taken))), (λ e. found .1 (c .if1 .taken))))
 
--- there is a place for each device in the queue
+-- there is a place for each node in the queue
 small : (c : tie.In-loop Inv-loop μ-loop) → c .before .loop .h ≤ 127
 small c = omega (arith, c .loop-test .taken, count-most (c .before .loop .inv .scan .covered .tree))
 

@@ -1,4 +1,4 @@
--- `network::reach::last_line` meets its contract: a device stands at a place below the count.
+-- `network::reach::last_line` meets its contract: a node stands at a place below the count.
 -- Assumes nothing.
 use native.Mathlib.Omega.{arith}
 use borrow.Author.Needs.{needs}

@@ -1,4 +1,4 @@
--- `network::reach::look` meets its contract: a line with nothing to spare and a line to a marked device leave all as it was; any other adds the device that it leads to.
+-- `network::reach::look` meets its contract: a line with nothing to spare and a line to a marked node leave all as it was; any other adds the node that it leads to.
 -- Assumes nothing.
 use mathlib.Core.Path.{refl, sym}
 use mathlib.Core.Bool.{true≢false, false≢true}
@@ -11,7 +11,7 @@ use borrow.Author.Needs.{needs}
 use Rattle.network.proofs.reach.look.Statement.{statement}
 use Rattle.network.proofs.reach.look.Tie as tie
 
--- the place of a device
+-- the place of a node
 place : (c : tie.Start) → c .args .h < 128
 place c = omega (arith, c .pre .1 .0 .0, count-most (c .pre .1 .1 .covered .tree))
 
@@ -32,7 +32,7 @@ returns c =
 far-end-requires : tie.Need-far-end-requires
 far-end-requires c κs = search needs
 
--- the far end of the line is a device
+-- the far end of the line is a node
 far : (c : tie.After-far-end) → c .far-end .result < 128
 far c =
     let s = c .before .before .before .before .before .before in
@@ -46,7 +46,7 @@ returns-2 c =
     let s = c .before .before .before .before .before .before .before .before in
     ((λ e. scan-same (s .args .l) (s .pre .1 .1) (λ r. rw (← c .before .before .far-end .ensures) (mark-one (s .pre .1 .1 .covered .tree) _ (far (c .before .before)) (c .if2 .taken)))), ((λ e. absurd (false≢true e)), (omega arith, refl)))
 
--- the line leads to a device that is not marked
+-- the line leads to a node that is not marked
 leads : (c : tie.Else2) → Leads (now (c .before .before .before .before .before .before .before .before .args .firsts)) (now (c .before .before .before .before .before .before .before .before .args .seconds)) (now (c .before .before .before .before .before .before .before .before .args .forth)) (now (c .before .before .before .before .before .before .before .before .args .back)) (now (c .before .before .before .before .before .before .before .before .args .node)) (now (c .before .before .before .before .before .before .before .before .args .mark)) (c .before .before .before .before .before .before .before .before .args .count) (c .before .before .before .before .before .before .before .before .args .h) (c .before .before .before .before .before .before .before .before .args .l) (c .before .before .far-end .result)
 leads c =
     let s = c .before .before .before .before .before .before .before .before in

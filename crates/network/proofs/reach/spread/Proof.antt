@@ -1,4 +1,4 @@
--- `network::reach::spread` meets its contract. The loop's invariant is `Standing`: the lines from `rest` on are done, and the one before is the device's own. The measure is `rest`.
+-- `network::reach::spread` meets its contract. The loop's invariant is `Standing`: the lines from `rest` on are done, and the one before is the node's own. The measure is `rest`.
 -- Assumes nothing.
 use mathlib.Core.Path.{_≡_, refl, _∙_}
 use mathlib.Core.Bool.{true≢false, false≢true}
@@ -19,7 +19,7 @@ Inv-loop firsts seconds before-first before-second forth back drain node₀ via�
 abbrev μ-loop : tie.MeasureT-loop
 μ-loop firsts seconds before-first before-second forth back drain node₀ via₀ from₀ mark₀ counted h resting u count₀ rest₀ node via from mark count rest = rest
 
--- the place of the device
+-- the place of the node
 place : (c : tie.Start Inv-loop μ-loop) → c .args .h < 128
 place c = omega (arith, c .pre .1 .1 .0, count-most (c .pre .1 .1 .1 .scan .covered .tree))
 
@@ -50,7 +50,7 @@ line-before-requires c κs =
     let s = c .before .before .before .before .before .before .before .before .before .before in
     ((standing-below (inv .2) some, s .pre .0 .few), (rw (inv .1) at (standing-own (inv .2) some), s .pre .1 .0))
 
--- the device is still there, and this is its line before
+-- the node is still there, and this is its line before
 same : (c : tie.After-look Inv-loop μ-loop) → getD (c .look .last .1 .1 .1 .1 .1 .0) (c .before .before .before .before .before .before .before .before .before .before .args .h) 0 ≡ getD (now (c .before .before .before .before .before .before .before .before .before .before .args .node)) (c .before .before .before .before .before .before .before .before .before .before .args .h) 0
 same c = c .look .ensures .1 .1 .1 ∙ c .before .before .before .before .before .before .loop .inv .1
 

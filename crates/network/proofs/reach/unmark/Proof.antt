@@ -1,4 +1,4 @@
--- `network::reach::unmark` meets its contract. The loop's invariant: the devices at the places below j are those marked. The measure is j.
+-- `network::reach::unmark` meets its contract. The loop's invariant: the nodes at the places below j are those marked. The measure is j.
 -- Assumes nothing.
 use Prim.Native.Nat.{_+_, _-_, _≤_}
 use mathlib.Core.Path.{_≡_}
