@@ -22,7 +22,8 @@ use Rattle.rules.specs.Lists.{over}
 use Rattle.rules.specs.Numbers.{sum}
 use Rattle.rules.specs.Rates.{rateOk}
 use Rattle.rules.specs.Sweep.{sweep, Sought, wantedIn}
-use Rattle.rules.specs.Network.{IsLeast, innerCut, Stands}
+use Rattle.rules.specs.Network.{IsLeast}
+use Rattle.rules.specs.Nodes.{innerCut, Stands}
 use Rattle.rules.proofs.RangeLaws.{range-in}
 use Rattle.rules.proofs.RefusalLaws.{accepted-sound}
 use Rattle.rules.proofs.FillLaws.{over-front}

@@ -9,7 +9,7 @@ use lib.ListN.{length, getD}
 use Rattle.rules.specs.Plant.{Plant}
 use Rattle.rules.specs.Cut.{Devices, crossing, size}
 use Rattle.rules.specs.Numbers.{sum}
-use Rattle.rules.specs.Network.{outerSignals}
+use Rattle.rules.specs.Nodes.{outerSignals}
 
 -- every node of n devices is a device
 abbrev pub NodesBelow : ℕ → List ℕ → Type 0

@@ -17,7 +17,8 @@ use Rattle.rules.specs.Numbers.{sum}
 use Rattle.rules.specs.Community.{community}
 use Rattle.rules.specs.CommunityIs.{IsCommunityIn}
 use Rattle.rules.specs.Groups.{groupOf}
-use Rattle.rules.specs.Network.{drained, netCost, IsLeast, innerCut, outerSignals, Stands}
+use Rattle.rules.specs.Network.{drained, netCost, IsLeast}
+use Rattle.rules.specs.Nodes.{innerCut, outerSignals, Stands}
 use Rattle.rules.proofs.SetLaws.{and-left, and-right, same-bool, agree-both}
 use Rattle.rules.proofs.SumLaws.{sum-front}
 use Rattle.rules.proofs.Sums.{agree-cost}

@@ -10,9 +10,10 @@
 --     Lists       a lent list after a call
 --     Hierarchy   levels, low rates and joining rates
 --     Sets        sets of devices against each other: inside, agree, the signals between two
---     Network     a network, what a set of its nodes costs, the least set that holds its start
+--     Network     a network, what a set of its nodes costs, the least set that holds a node
 -- What only the laws speak of, and no public contract cites:
 --     CommunityIs the community of a device as a property of a set
+--     Nodes       networks whose nodes stand for sets of devices
 --     Accepted    an accepted plant, and all signals together
 --     Limits      the least and the largest rate
 --     Added       document 004's graph with its added vertex t
@@ -32,6 +33,7 @@ pub mod Lists
 pub mod Hierarchy
 pub mod Sets
 pub mod Network
+pub mod Nodes
 pub mod CommunityIs
 pub mod Accepted
 pub mod Limits
