@@ -86,11 +86,11 @@ module _ (g : Plant) (p q : ℕ) (ok : Devices → Bool) where
 
   -- and no later than any set of the list that passes the test
   best-listed :
-      (T S : Devices) {Ss : List Devices} → Memᴰ S Ss → ok S ≡ true → NoLater g p q (best g p q ok T Ss) S
+      (S T : Devices) {Ss : List Devices} → Memᴰ S Ss → ok S ≡ true → NoLater g p q (best g p q ok T Ss) S
   unfolding best
-  best-listed T S (Memᴰ.head {x = R} {xs = Ss} e) o =
+  best-listed S T (Memᴰ.head {x = R} {xs = Ss} e) o =
       no-later-trans g p q (best-first (step R T) Ss) (rw e ((step-no-later R T).1 (rw e at o)))
-  best-listed T S (Memᴰ.tail {x = R} {xs = Ss} m) o = best-listed (step R T) S m o
+  best-listed S T (Memᴰ.tail {x = R} {xs = Ss} m) o = best-listed S (step R T) m o
 
   -- what holds of the set it starts with, and of those of the list that pass the test, holds of the best
   best_keeps :
@@ -120,7 +120,7 @@ map_cases f (x ∷ xs) (Memᴰ.tail m) =
     let r = map_cases f xs m in
     (r.0, Memᴰ.tail r.1, r.2)
 
-map-holds : {A B : Type 0} (f : A → B) {xs : List A} {x : A} → Memᴰ x xs → Memᴰ (f x) (map f xs)
+map-holds : {A B : Type 0} (f : A → B) {x : A} {xs : List A} → Memᴰ x xs → Memᴰ (f x) (map f xs)
 map-holds f (Memᴰ.head e) = Memᴰ.head (ap f e)
 map-holds f (Memᴰ.tail m) = Memᴰ.tail (map-holds f m)
 
@@ -170,7 +170,7 @@ best-of-all g p q ok s same R T o =
     let c = agree-cost g p q S T s a in
     let z = agree-size g S T a in
     let alike : NoLater g p q S T = record { cheap = omega arith; small = λ h. omega arith } in
-    no-later-trans g p q (best-listed g p q ok R S m (same S T a ∙ o)) alike
+    no-later-trans g p q (best-listed g p q ok S R m (same S T a ∙ o)) alike
 
 best-passes :
     (g : Plant) (p q : ℕ) (ok : Devices → Bool) (R : Devices) (Ss : List Devices) →
