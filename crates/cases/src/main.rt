@@ -1,5 +1,7 @@
 // Runs the case tables: each row of standard input is a case, and after a semicolon the expected answer.
 // The case goes through the proved calls, and its line in the output has the answer and whether it is the expected one. A row that starts with # is a heading.
+#![tactic(auto)]
+
 mod checks;
 mod communities;
 mod groups;

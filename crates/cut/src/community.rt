@@ -82,8 +82,8 @@ fn crossing_signals(
     mark: &[u8; DEVICES],
     l: usize,
 ) -> usize
-    requires l_in_bounds { (l < length firsts.now) × (length firsts.now ≡ length seconds.now) × (length seconds.now ≡ length signals.now) }
-    requires l_bound { (get_or firsts.now l 0 < 128) × (get_or seconds.now l 0 < 128) }
+    requires line { (l < length firsts.now) × (length firsts.now ≡ length seconds.now) × (length seconds.now ≡ length signals.now) }
+    requires ends { (get_or firsts.now l 0 < 128) × (get_or seconds.now l 0 < 128) }
     ensures { result ≡ cond (eqb (get_or mark.now (get_or firsts.now l 0) 0) (get_or mark.now (get_or seconds.now l 0) 0)) 0 (get_or signals.now l 0) }
 {
     let a = firsts[l];
@@ -101,8 +101,8 @@ fn cut_signals(
     signals: &[usize],
     mark: &[u8; DEVICES],
 ) -> usize
-    requires firsts_len { (length firsts.now ≡ length seconds.now) × (length seconds.now ≡ length signals.now) × (length firsts.now ≤ 1024) }
-    requires by_index { (l : ℕ) → l < length firsts.now → (get_or firsts.now l 0 < 128) × (get_or seconds.now l 0 < 128) × (get_or signals.now l 0 ≤ 65535) }
+    requires lists { (length firsts.now ≡ length seconds.now) × (length seconds.now ≡ length signals.now) × (length firsts.now ≤ 1024) }
+    requires lines { (l : ℕ) → l < length firsts.now → (get_or firsts.now l 0 < 128) × (get_or seconds.now l 0 < 128) × (get_or signals.now l 0 ≤ 65535) }
     ensures { result ≡ sum (length firsts.now) (λ l. cond (eqb (get_or mark.now (get_or firsts.now l 0) 0) (get_or mark.now (get_or seconds.now l 0) 0)) 0 (get_or signals.now l 0)) }
 {
     let mut out = 0;
@@ -126,9 +126,9 @@ fn fill_community(
     marks: &mut [u8],
 ) -> Answer
     requires accepted { Accepted n firsts.now seconds.now signals.now }
-    requires q_value { (rate_ok p q ≡ true) × (device < n) × (n ≤ length marks.old) }
-    ensures value { result ≡ record { number = 0; place = 0; size = size (plant_of n firsts.now seconds.now signals.now) (community (plant_of n firsts.now seconds.now signals.now) p q device); out = out (plant_of n firsts.now seconds.now signals.now).lines (community (plant_of n firsts.now seconds.now signals.now) p q device) } }
-    ensures marks_after { marks.new ≡ over (marks_of n (community (plant_of n firsts.now seconds.now signals.now) p q device)) marks.old }
+    requires taken { (rate_ok p q ≡ true) × (device < n) × (n ≤ length marks.old) }
+    ensures answer { result ≡ record { number = 0; place = 0; size = size (plant_of n firsts.now seconds.now signals.now) (community (plant_of n firsts.now seconds.now signals.now) p q device); out = out (plant_of n firsts.now seconds.now signals.now).lines (community (plant_of n firsts.now seconds.now signals.now) p q device) } }
+    ensures marks_filled { marks.new ≡ over (marks_of n (community (plant_of n firsts.now seconds.now signals.now) p q device)) marks.old }
 {
     let mut wanted = [0u8; DEVICES];
     wanted[device] = 1;
@@ -156,8 +156,8 @@ pub fn community(
     device: usize,
     marks: &mut [u8],
 ) -> Answer
-    ensures value { result ≡ community_answer n firsts.now seconds.now signals.now rate.p rate.q device marks.old }
-    ensures marks_after { marks.new ≡ community_marks n firsts.now seconds.now signals.now rate.p rate.q device marks.old }
+    ensures answer { result ≡ community_answer n firsts.now seconds.now signals.now rate.p rate.q device marks.old }
+    ensures marks_filled { marks.new ≡ community_marks n firsts.now seconds.now signals.now rate.p rate.q device marks.old }
 {
     let plant = check_plant(n, firsts, seconds, signals);
     if plant.number != 0 {

@@ -1,4 +1,6 @@
 // The cut part: rates, the check of a plant, and the communities of its devices.
+#![tactic(auto)]
+
 pub mod check;
 pub mod community;
 pub mod owners;

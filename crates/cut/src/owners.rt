@@ -16,8 +16,8 @@ pub fn owners(
     rate: Rate,
     owner: &mut [usize],
 ) -> Refusal
-    ensures value { result ≡ owners_fault n firsts.now seconds.now signals.now rate.p rate.q (length owner.old) }
-    ensures owner_after { owner.new ≡ owners_after n firsts.now seconds.now signals.now rate.p rate.q owner.old }
+    ensures answer { result ≡ owners_fault n firsts.now seconds.now signals.now rate.p rate.q (length owner.old) }
+    ensures owners_filled { owner.new ≡ owners_after n firsts.now seconds.now signals.now rate.p rate.q owner.old }
 {
     let plant = check_plant(n, firsts, seconds, signals);
     if plant.number != 0 {

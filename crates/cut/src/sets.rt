@@ -13,8 +13,8 @@ use rules::{DEVICES, LINES};
 
 // Each line's width: q times its signals.
 fn widen(signals: &[usize], q: usize, widths: &mut [usize])
-    requires signals_in_bounds { (length signals.now ≤ length widths.old) × (q ≤ 1000) }
-    requires by_index { (l : ℕ) → l < length signals.now → get_or signals.now l 0 ≤ 65535 }
+    requires room { (length signals.now ≤ length widths.old) × (q ≤ 1000) }
+    requires small { (l : ℕ) → l < length signals.now → get_or signals.now l 0 ≤ 65535 }
     ensures { widths.new ≡ over (table (length signals.now) (λ l. q * get_or signals.now l 0)) widths.old }
 {
     let mut l = 0;
@@ -36,7 +36,7 @@ pub fn own_communities(
     owner: &mut [usize],
 )
     requires accepted { Accepted n firsts.now seconds.now signals.now }
-    requires q_value { (rate_ok p q ≡ true) × (n ≤ length owner.old) × (length wanted.now ≡ 128) }
+    requires taken { (rate_ok p q ≡ true) × (n ≤ length owner.old) × (length wanted.now ≡ 128) }
     ensures { owner.new ≡ over (table n (sweep (community (plant_of n firsts.now seconds.now signals.now) p q) (wanted_in wanted.now) n n)) owner.old }
 {
     let mut widths = [0usize; LINES];

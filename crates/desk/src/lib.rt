@@ -1,5 +1,7 @@
 // The planning desk, which is written in C: it hands over a plant text as bytes and receives labels as bytes. Document 01, "What a call
 // fills". It stands on what the text part and the grouping part promise.
+#![tactic(auto)]
+
 ghost use Rattle.std.specs.Prelude.{◌≡◌, ℕ, ◌≤◌, ◌<◌, length, get_or};
 ghost use Rattle.rules.specs.Groups.{table};
 ghost use Rattle.rules.specs.Lists.{over};
@@ -24,8 +26,8 @@ fn put_labels(n: usize, found: &[usize; DEVICES], labels: &mut [u8])
 
 // Reads the text into lists of its own, finds the groups at p/q, and fills the labels last.
 fn grouped(text: &[u8], p: usize, q: usize, labels: &mut [u8]) -> Grouping
-    ensures value { result ≡ desk_answer text.now p q (length labels.old) }
-    ensures labels_new { labels.new ≡ desk_labels text.now p q labels.old }
+    ensures answer { result ≡ desk_answer text.now p q (length labels.old) }
+    ensures labels_filled { labels.new ≡ desk_labels text.now p q labels.old }
 {
     let mut firsts = [0usize; LINES];
     let mut seconds = [0usize; LINES];

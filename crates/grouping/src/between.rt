@@ -99,7 +99,7 @@ pub fn owners_between(
     node: &[usize; DEVICES],
     wall: &[usize; DEVICES],
 ) -> [usize; DEVICES]
-    requires q_value { (rate_ok p q ≡ true) × Accepted n firsts.now seconds.now signals.now }
+    requires taken { (rate_ok p q ≡ true) × Accepted n firsts.now seconds.now signals.now }
     requires between { Between (plant_of n firsts.now seconds.now signals.now) p q node.now wall.now }
     ensures { Swept (plant_of n firsts.now seconds.now signals.now) p q result }
 {

@@ -89,10 +89,10 @@ fn greatest(
 ) -> Rates
     requires accepted { Accepted n firsts.now seconds.now signals.now }
     requires labels_below { LabelsBelow n finer.now × LabelsBelow n coarser.now }
-    requires sizes_of { SizesOf (plant_of n firsts.now seconds.now signals.now) finer.now finer_sizes.now }
-    requires outs_of { OutsOf (plant_of n firsts.now seconds.now signals.now) finer.now finer_outs.now }
-    requires sizes_of_2 { SizesOf (plant_of n firsts.now seconds.now signals.now) coarser.now coarser_sizes.now }
-    requires outs_of_2 { OutsOf (plant_of n firsts.now seconds.now signals.now) coarser.now coarser_outs.now }
+    requires sizes_finer { SizesOf (plant_of n firsts.now seconds.now signals.now) finer.now finer_sizes.now }
+    requires outs_finer { OutsOf (plant_of n firsts.now seconds.now signals.now) finer.now finer_outs.now }
+    requires sizes_coarser { SizesOf (plant_of n firsts.now seconds.now signals.now) coarser.now coarser_sizes.now }
+    requires outs_coarser { OutsOf (plant_of n firsts.now seconds.now signals.now) coarser.now coarser_outs.now }
     ensures { (h : ℕ) → h < n → Greatest (plant_of n firsts.now seconds.now signals.now) finer.now coarser.now h n (get_or result.p h 0) (get_or result.q h 0) }
 {
     let mut p = [0usize; DEVICES];
@@ -132,9 +132,9 @@ fn least_of(
 ) -> Rate
     requires accepted { Accepted n firsts.now seconds.now signals.now }
     requires labels_below { LabelsBelow n finer.now × LabelsBelow n coarser.now }
-    requires sizes_of { SizesOf (plant_of n firsts.now seconds.now signals.now) finer.now finer_sizes.now }
-    requires sizes_of_2 { SizesOf (plant_of n firsts.now seconds.now signals.now) coarser.now coarser_sizes.now }
-    requires by_index { (h : ℕ) → h < n → Greatest (plant_of n firsts.now seconds.now signals.now) finer.now coarser.now h n (get_or rates.p h 0) (get_or rates.q h 0) }
+    requires sizes_finer { SizesOf (plant_of n firsts.now seconds.now signals.now) finer.now finer_sizes.now }
+    requires sizes_coarser { SizesOf (plant_of n firsts.now seconds.now signals.now) coarser.now coarser_sizes.now }
+    requires greatest_of { (h : ℕ) → h < n → Greatest (plant_of n firsts.now seconds.now signals.now) finer.now coarser.now h n (get_or rates.p h 0) (get_or rates.q h 0) }
     ensures { LeastOf (plant_of n firsts.now seconds.now signals.now) finer.now coarser.now rates.p rates.q n result.p result.q }
 {
     let ps = rates.p;
@@ -166,7 +166,7 @@ pub fn crossing(
     coarser: &[usize; DEVICES],
 ) -> Rate
     requires accepted { Accepted n firsts.now seconds.now signals.now }
-    requires by_index { (ap : ℕ) × (aq : ℕ) × (bp : ℕ) × (bq : ℕ) × Apart (plant_of n firsts.now seconds.now signals.now) ap aq bp bq finer.now coarser.now }
+    requires apart { (ap : ℕ) × (aq : ℕ) × (bp : ℕ) × (bq : ℕ) × Apart (plant_of n firsts.now seconds.now signals.now) ap aq bp bq finer.now coarser.now }
     ensures { CrossingRate (plant_of n firsts.now seconds.now signals.now) finer.now coarser.now result.p result.q }
 {
     let finer_sizes = sizes_of(n, finer);

@@ -24,8 +24,8 @@ pub fn groups_at(
     rate: Rate,
     labels: &mut [usize],
 ) -> Grouping
-    ensures value { result ≡ grouping_answer n firsts.now seconds.now signals.now rate.p rate.q labels.old }
-    ensures labels_new { labels.new ≡ labels_after n firsts.now seconds.now signals.now rate.p rate.q labels.old }
+    ensures answer { result ≡ grouping_answer n firsts.now seconds.now signals.now rate.p rate.q labels.old }
+    ensures labels_filled { labels.new ≡ labels_after n firsts.now seconds.now signals.now rate.p rate.q labels.old }
 {
     let mut owner = [0usize; DEVICES];
     let fault = owners(n, firsts, seconds, signals, rate, &mut owner);

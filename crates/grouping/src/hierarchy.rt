@@ -24,7 +24,7 @@ pub struct Levels {
 fn put_row(n: usize, level: &[usize; DEVICES], k: usize, labels: &mut [usize])
     requires { (n ≤ 128) × (k < n) × (n * n ≤ length labels.old) }
     ensures kept_outside { KeptOutside (k * n) (k * n + n) labels.old labels.new }
-    ensures k_after { row_of n labels.new k ≡ table n (λ v. get_or level.now v 0) }
+    ensures row_filled { row_of n labels.new k ≡ table n (λ v. get_or level.now v 0) }
 {
     let start = k * n;
     let mut v = 0;
@@ -45,8 +45,8 @@ fn settle(
     low_p: &mut [usize],
     low_q: &mut [usize],
 ) -> usize
-    requires n_bound { (n ≤ 128) × (at + 1 < n) }
-    requires n_in_bounds { (n * n ≤ length labels.old) × (n ≤ length low_p.old) × (n ≤ length low_q.old) }
+    requires place_there { (n ≤ 128) × (at + 1 < n) }
+    requires room { (n * n ≤ length labels.old) × (n ≤ length low_p.old) × (n ≤ length low_q.old) }
     ensures { Settled n coarser.now at result rate.p rate.q labels.old low_p.old low_q.old labels.new low_p.new low_q.new }
 {
     low_p[at] = rate.p;
@@ -143,7 +143,7 @@ fn fill_hierarchy(
     low_q: &mut [usize],
 ) -> usize
     requires accepted { Accepted n firsts.now seconds.now signals.now }
-    requires n_in_bounds { (n * n ≤ length labels.old) × (n ≤ length low_p.old) × (n ≤ length low_q.old) }
+    requires room { (n * n ≤ length labels.old) × (n ≤ length low_p.old) × (n ≤ length low_q.old) }
     ensures { Listed (plant_of n firsts.now seconds.now signals.now) result labels.old low_p.old low_q.old labels.new low_p.new low_q.new }
 {
     let finest = level_at(n, firsts, seconds, signals, Rate::LARGEST);

@@ -17,8 +17,8 @@ fn put_rising(
     upper: &mut [usize],
     widths: &mut [usize],
 ) -> usize
-    requires x_lt_y { (x < y) × (width ≤ 65535000) × WidthsBelow m widths.old }
-    requires m_in_bounds { (m < length lower.old) × (m < length upper.old) × (m < length widths.old) }
+    requires line_fits { (x < y) × (width ≤ 65535000) × WidthsBelow m widths.old }
+    requires room { (m < length lower.old) × (m < length upper.old) × (m < length widths.old) }
     ensures { LinePut width x y lower.old upper.old widths.old m lower.new upper.new widths.new result }
 {
     if 0 < m {

@@ -35,7 +35,7 @@ fn join_between(
 ) -> Rate
     requires accepted { Accepted n firsts.now seconds.now signals.now × (one < n) × (other < n) }
     requires some_levels { SomeLevels (plant_of n firsts.now seconds.now signals.now) finest coarsest }
-    requires fact { (get_or finest.labels one 0 ≡ get_or finest.labels other 0 → ⊥) × (get_or coarsest.labels one 0 ≡ get_or coarsest.labels other 0) }
+    requires parted { (get_or finest.labels one 0 ≡ get_or finest.labels other 0 → ⊥) × (get_or coarsest.labels one 0 ≡ get_or coarsest.labels other 0) }
     ensures { JoinsAt (plant_of n firsts.now seconds.now signals.now) one other result.p result.q }
 {
     let mut finer = finest;

@@ -9,8 +9,8 @@ use rules::DEVICES;
 // Fills for each device the lowest one with its owner, and counts these.
 pub fn fill(n: usize, owner: &[usize; DEVICES], labels: &mut [usize]) -> usize
     requires { (n ≤ 128) × (n ≤ length labels.old) × ((v : ℕ) → v < n → get_or owner.now v 0 < n) }
-    ensures value { result ≡ distinct (table n (first_with n owner.now)) }
-    ensures labels_new { labels.new ≡ over (table n (first_with n owner.now)) labels.old }
+    ensures count { result ≡ distinct (table n (first_with n owner.now)) }
+    ensures labels_filled { labels.new ≡ over (table n (first_with n owner.now)) labels.old }
 {
     let mut first = [n; DEVICES];
     let mut groups = 0;

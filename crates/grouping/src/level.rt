@@ -62,7 +62,7 @@ pub fn level_between(
     owner: &[usize; DEVICES],
     wall: &[usize; DEVICES],
 ) -> Level
-    requires q_value { (rate_ok rate.p rate.q ≡ true) × Accepted n firsts.now seconds.now signals.now }
+    requires taken { (rate_ok rate.p rate.q ≡ true) × Accepted n firsts.now seconds.now signals.now }
     requires between { Between (plant_of n firsts.now seconds.now signals.now) rate.p rate.q owner.now wall.now }
     ensures { IsLevel (plant_of n firsts.now seconds.now signals.now) rate.p rate.q result }
 {

@@ -1,5 +1,7 @@
 // Prints the hierarchy of the plant text on standard input, or its refusal. Document 01, "Plant text and listing".
 // One byte more than a text may have is read, so that a longer one is refused and not held.
+#![tactic(auto)]
+
 use libc::{STDIN_FILENO, STDOUT_FILENO};
 use text::show::list_text;
 

@@ -19,8 +19,8 @@ fn index_line(
     requires last_len { (length last.old ≡ 128) × (length before_first.old ≡ 1024) × (length before_second.old ≡ 1024) }
     requires lasts { Lasts firsts.now seconds.now k last.old }
     requires priors { Priors firsts.now seconds.now k before_first.old before_second.old }
-    ensures lasts_2 { Lasts firsts.now seconds.now (k + 1) last.new }
-    ensures priors_2 { Priors firsts.now seconds.now (k + 1) before_first.new before_second.new }
+    ensures lasts_after { Lasts firsts.now seconds.now (k + 1) last.new }
+    ensures priors_after { Priors firsts.now seconds.now (k + 1) before_first.new before_second.new }
 {
     let a = firsts[k];
     let b = seconds[k];
@@ -40,8 +40,8 @@ pub fn index_lines(
 )
     requires laid { Laid firsts.now seconds.now }
     requires lasts { Lasts firsts.now seconds.now 0 last.old }
-    ensures lasts_2 { Lasts firsts.now seconds.now (length firsts.now) last.new }
-    ensures priors { Priors firsts.now seconds.now (length firsts.now) before_first.new before_second.new }
+    ensures lasts_after { Lasts firsts.now seconds.now (length firsts.now) last.new }
+    ensures priors_after { Priors firsts.now seconds.now (length firsts.now) before_first.new before_second.new }
 {
     let mut k = 0;
     while k < firsts.len() {
@@ -59,8 +59,8 @@ pub fn line_before(
     v: usize,
     l: usize,
 ) -> usize
-    requires l_in_bounds { (l < length firsts.now) × (length firsts.now ≤ 1024) }
-    requires v_value { touches firsts.now seconds.now l v ≡ true }
+    requires line { (l < length firsts.now) × (length firsts.now ≤ 1024) }
+    requires own { touches firsts.now seconds.now l v ≡ true }
     requires priors { Priors firsts.now seconds.now (length firsts.now) before_first.now before_second.now }
     ensures { Before firsts.now seconds.now v l result }
 {

@@ -10,8 +10,8 @@ pub const WIDEST: usize = 1125899906842624;
 // Whether each line's first end is below the second, both are nodes, and its width is not too large.
 fn lines_fit(k: usize, firsts: &[usize], seconds: &[usize], widths: &[usize]) -> bool
     requires { (length firsts.now ≡ length seconds.now) × (length firsts.now ≡ length widths.now) }
-    ensures line_fits { result ≡ true → (l : ℕ) → l < length firsts.now → LineFits k firsts.now seconds.now widths.now l }
-    ensures by_index { result ≡ false → (l : ℕ) × (l < length firsts.now) × (LineFits k firsts.now seconds.now widths.now l → ⊥) }
+    ensures all_fit { result ≡ true → (l : ℕ) → l < length firsts.now → LineFits k firsts.now seconds.now widths.now l }
+    ensures one_not { result ≡ false → (l : ℕ) × (l < length firsts.now) × (LineFits k firsts.now seconds.now widths.now l → ⊥) }
 {
     let mut l = 0;
     while l < firsts.len() {
@@ -32,8 +32,8 @@ fn lines_fit(k: usize, firsts: &[usize], seconds: &[usize], widths: &[usize]) ->
 // Whether no drain of the k nodes is too large.
 fn drains_fit(k: usize, drains: &[usize]) -> bool
     requires { k ≤ length drains.now }
-    ensures v_bound { result ≡ true → (v : ℕ) → v < k → get_or drains.now v 0 ≤ 2 ^ 50 }
-    ensures by_index { result ≡ false → (v : ℕ) × (v < k) × (get_or drains.now v 0 ≤ 2 ^ 50 → ⊥) }
+    ensures all_fit { result ≡ true → (v : ℕ) → v < k → get_or drains.now v 0 ≤ 2 ^ 50 }
+    ensures one_not { result ≡ false → (v : ℕ) × (v < k) × (get_or drains.now v 0 ≤ 2 ^ 50 → ⊥) }
 {
     let mut v = 0;
     while v < k {
@@ -56,7 +56,7 @@ pub fn fits(
     room: usize,
 ) -> bool
     ensures taken { result ≡ true → Taken k firsts.now seconds.now widths.now drains.now wanteds room }
-    ensures fact { result ≡ false → Taken k firsts.now seconds.now widths.now drains.now wanteds room → ⊥ }
+    ensures refused { result ≡ false → Taken k firsts.now seconds.now widths.now drains.now wanteds room → ⊥ }
 {
     let lines = firsts.len();
     if DEVICES < k {

@@ -13,8 +13,8 @@ use rules::{DEVICES, LINES};
 // Each line has its width to spare, both ways.
 fn open_lines(widths: &[usize], forth: &mut [usize], back: &mut [usize])
     requires { (length widths.now ≤ length forth.old) × (length widths.now ≤ length back.old) }
-    ensures by_index { (l : ℕ) → l < length widths.now → get_or forth.new l 0 ≡ get_or widths.now l 0 }
-    ensures by_index_2 { (l : ℕ) → l < length widths.now → get_or back.new l 0 ≡ get_or widths.now l 0 }
+    ensures forth_open { (l : ℕ) → l < length widths.now → get_or forth.new l 0 ≡ get_or widths.now l 0 }
+    ensures back_open { (l : ℕ) → l < length widths.now → get_or back.new l 0 ≡ get_or widths.now l 0 }
 {
     let mut l = 0;
     while l < widths.len() {
@@ -52,16 +52,16 @@ fn advance(
 ) -> usize
     requires laid { Laid firsts.now seconds.now }
     requires led { Led firsts.now seconds.now forth.old back.old drain.old (get_or node.now 0 0) node.now via.now from.now count }
-    requires by_index { (l : ℕ) → l < length firsts.now → get_or forth.old l 0 + get_or back.old l 0 < 2 ^ 63 }
-    ensures v_bound { sum 128 (λ v. get_or drain.new v 0) < sum 128 (λ v. get_or drain.old v 0) }
-    ensures by_index_2 { (k : ℕ) (zs ds : List ℕ) → ((j : ℕ) → j < count → get_or node.now j 0 < k)
+    requires small { (l : ℕ) → l < length firsts.now → get_or forth.old l 0 + get_or back.old l 0 < 2 ^ 63 }
+    ensures less { sum 128 (λ v. get_or drain.new v 0) < sum 128 (λ v. get_or drain.old v 0) }
+    ensures spares { (k : ℕ) (zs ds : List ℕ) → ((j : ℕ) → j < count → get_or node.now j 0 < k)
         → Spares k firsts.now seconds.now zs ds (get_or node.now 0 0) forth.old back.old drain.old
         → Spares k firsts.now seconds.now zs ds (get_or node.now 0 0) forth.new back.new drain.new }
-    ensures lower_bound { (1 ≤ result) × (result ≤ count) }
-    ensures scan { result ≡ count → (marks : List ℕ) (h k : ℕ)
+    ensures within { (1 ≤ result) × (result ≤ count) }
+    ensures whole { result ≡ count → (marks : List ℕ) (h k : ℕ)
         → Found firsts.now seconds.now forth.old back.old drain.old (get_or node.now 0 0) node.now via.now from.now marks count h k
         → Scan firsts.now seconds.now forth.new back.new drain.new (get_or node.now 0 0) node.now via.now from.now marks count h k }
-    ensures scan_2 { result < count → (marks marks' : List ℕ) (h k : ℕ)
+    ensures cut_back { result < count → (marks marks' : List ℕ) (h k : ℕ)
         → Found firsts.now seconds.now forth.old back.old drain.old (get_or node.now 0 0) node.now via.now from.now marks count h k
         → Marks node.now marks' result
         → Scan firsts.now seconds.now forth.new back.new drain.new (get_or node.now 0 0) node.now via.now from.now marks' result (get_or from.now result 0) (get_or via.now result 0) }
@@ -94,15 +94,15 @@ fn round(
     front: Front,
 ) -> Front
     requires laid { Laid firsts.now seconds.now }
-    requires start_bound { start < 128 }
+    requires start_node { start < 128 }
     requires lasts { Lasts firsts.now seconds.now (length firsts.now) last.now }
     requires priors { Priors firsts.now seconds.now (length firsts.now) before_first.now before_second.now }
     requires standing { 1 ≤ front.count → Standing firsts.now seconds.now forth.old back.old drain.old start node.old via.old from.old mark.old front.count front.place front.rest }
-    requires by_index { (l : ℕ) → l < length firsts.now → get_or forth.old l 0 + get_or back.old l 0 < 2 ^ 63 }
+    requires small { (l : ℕ) → l < length firsts.now → get_or forth.old l 0 + get_or back.old l 0 < 2 ^ 63 }
     ensures scan { result.found ≡ false → Scan firsts.now seconds.now forth.new back.new drain.new start node.new via.new from.new mark.new result.count result.count (length firsts.now) }
-    ensures standing_2 { result.found ≡ true → 1 ≤ result.count → Standing firsts.now seconds.now forth.new back.new drain.new start node.new via.new from.new mark.new result.count result.place result.rest }
-    ensures found_bound { sum 128 (λ v. get_or drain.new v 0) + cond result.found 1 0 ≤ sum 128 (λ v. get_or drain.old v 0) }
-    ensures by_index_2 { (k : ℕ) (zs ds : List ℕ) → Started k firsts.now seconds.now zs ds start
+    ensures standing_after { result.found ≡ true → 1 ≤ result.count → Standing firsts.now seconds.now forth.new back.new drain.new start node.new via.new from.new mark.new result.count result.place result.rest }
+    ensures less { sum 128 (λ v. get_or drain.new v 0) + cond result.found 1 0 ≤ sum 128 (λ v. get_or drain.old v 0) }
+    ensures spares { (k : ℕ) (zs ds : List ℕ) → Started k firsts.now seconds.now zs ds start
         → Spares k firsts.now seconds.now zs ds start forth.old back.old drain.old
         → Spares k firsts.now seconds.now zs ds start forth.new back.new drain.new }
 {
@@ -160,8 +160,8 @@ pub fn least(
     requires started { Started k firsts.now seconds.now widths.now drains.now start }
     requires lasts { Lasts firsts.now seconds.now (length firsts.now) last.now }
     requires priors { Priors firsts.now seconds.now (length firsts.now) before_first.now before_second.now }
-    ensures least { IsLeast (lines_of firsts.now seconds.now widths.now) (λ v. get_or drains.now v 0) k start (λ v. eqb (get_or mark.new v 0) 1) }
-    ensures by_index { (v : ℕ) → v < k → get_or mark.new v 0 ≡ cond (eqb (get_or mark.new v 0) 1) 1 0 }
+    ensures least_set { IsLeast (lines_of firsts.now seconds.now widths.now) (λ v. get_or drains.now v 0) k start (λ v. eqb (get_or mark.new v 0) 1) }
+    ensures marks { (v : ℕ) → v < k → get_or mark.new v 0 ≡ cond (eqb (get_or mark.new v 0) 1) 1 0 }
 {
     let mut forth = [0usize; LINES];
     let mut back = [0usize; LINES];

@@ -62,7 +62,7 @@ fn take_over(
     owner: &mut [usize],
 )
     requires started { Started k firsts.now seconds.now widths.now drains.now x }
-    requires k_in_bounds { k ≤ length owner.old }
+    requires room { k ≤ length owner.old }
     requires lasts { Lasts firsts.now seconds.now (length firsts.now) last.now }
     requires priors { Priors firsts.now seconds.now (length firsts.now) before_first.now before_second.now }
     ensures { (S : Devices) × IsLeast (lines_of firsts.now seconds.now widths.now) (λ v. get_or drains.now v 0) k x S × (owner.new ≡ over (table k (λ v. cond (S v) x (get_or owner.old v 0))) owner.old) }
@@ -98,7 +98,7 @@ pub fn fill_owners(
     owner: &mut [usize],
 )
     requires network { Network k firsts.now seconds.now widths.now drains.now }
-    requires k_in_bounds { (k ≤ length wanted.now) × (k ≤ length owner.old) }
+    requires room { (k ≤ length wanted.now) × (k ≤ length owner.old) }
     ensures { OwnersOf k firsts.now seconds.now widths.now drains.now wanted.now owner.old owner.new }
 {
     let mut last = [0usize; DEVICES];

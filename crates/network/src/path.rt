@@ -16,11 +16,11 @@ pub fn narrowest(
     end: usize,
     limit: usize,
 ) -> usize
-    requires firsts_len_bound { (length firsts.now ≤ 1024) × (end < 128) × (1 ≤ limit) }
-    requires by_index { (j : ℕ) → 1 ≤ j → j < end + 1 → (get_or from.now j 0 < j) × (get_or via.now j 0 < length firsts.now) }
+    requires few { (length firsts.now ≤ 1024) × (end < 128) × (1 ≤ limit) }
+    requires way { (j : ℕ) → 1 ≤ j → j < end + 1 → (get_or from.now j 0 < j) × (get_or via.now j 0 < length firsts.now) }
     requires passable { Passable firsts.now forth.now back.now node.now via.now from.now (end + 1) }
-    ensures lower_bound { (1 ≤ result) × (result ≤ limit) }
-    ensures fact { (result ≡ limit) ⊎ ((j : ℕ) × (1 ≤ j) × (j < end + 1) × On from.now end j × (spare_to firsts.now forth.now back.now node.now via.now from.now j ≡ result)) }
+    ensures within { (1 ≤ result) × (result ≤ limit) }
+    ensures reached { (result ≡ limit) ⊎ ((j : ℕ) × (1 ≤ j) × (j < end + 1) × On from.now end j × (spare_to firsts.now forth.now back.now node.now via.now from.now j ≡ result)) }
     ensures clear { Clear firsts.now forth.now back.now node.now via.now from.now result end }
 {
     let mut most = limit;
@@ -45,9 +45,9 @@ fn send_over(
     u: usize,
     amount: usize,
 )
-    requires l_in_bounds { (l < length firsts.now) × (l < length forth.old) × (l < length back.old) }
-    requires amount_bound { amount ≤ spare_from_of firsts.now forth.old back.old l u }
-    requires l_bound { get_or forth.old l 0 + get_or back.old l 0 < 2 ^ 63 }
+    requires line { (l < length firsts.now) × (l < length forth.old) × (l < length back.old) }
+    requires enough { amount ≤ spare_from_of firsts.now forth.old back.old l u }
+    requires small { get_or forth.old l 0 + get_or back.old l 0 < 2 ^ 63 }
     ensures forth_new { forth.new ≡ forth_after firsts.now forth.old l u amount }
     ensures back_new { back.new ≡ back_after firsts.now back.old l u amount }
 {
@@ -75,10 +75,10 @@ pub fn send(
     amount: usize,
 )
     requires laid { Laid firsts.now seconds.now }
-    requires end_bound { end < 128 }
+    requires end_place { end < 128 }
     requires way { Way firsts.now seconds.now node.now via.now from.now (end + 1) }
     requires clear { Clear firsts.now forth.old back.old node.now via.now from.now amount end }
-    requires by_index { (l : ℕ) → l < length firsts.now → get_or forth.old l 0 + get_or back.old l 0 < 2 ^ 63 }
+    requires small { (l : ℕ) → l < length firsts.now → get_or forth.old l 0 + get_or back.old l 0 < 2 ^ 63 }
     ensures sent { Sent firsts.now seconds.now (get_or node.now 0 0) (get_or node.now end 0) amount forth.old back.old forth.new back.new }
     ensures kept { Kept firsts.now node.now via.now from.now end amount forth.old back.old forth.new back.new }
 {
@@ -100,11 +100,11 @@ pub fn first_used(
     from: &[usize; DEVICES],
     end: usize,
 ) -> usize
-    requires firsts_len_bound { (length firsts.now ≤ 1024) × (end < 128) }
-    requires by_index { (j : ℕ) → 1 ≤ j → j < end + 1 → (get_or from.now j 0 < j) × (get_or via.now j 0 < length firsts.now) }
-    ensures lower_bound { (1 ≤ result) × (result ≤ end + 1) }
-    ensures result_value { result < end + 1 → spare_to firsts.now forth.now back.now node.now via.now from.now result ≡ 0 }
-    ensures by_index_2 { (j : ℕ) → 1 ≤ j → On from.now end j → j < result → 1 ≤ spare_to firsts.now forth.now back.now node.now via.now from.now j }
+    requires few { (length firsts.now ≤ 1024) × (end < 128) }
+    requires way { (j : ℕ) → 1 ≤ j → j < end + 1 → (get_or from.now j 0 < j) × (get_or via.now j 0 < length firsts.now) }
+    ensures within { (1 ≤ result) × (result ≤ end + 1) }
+    ensures used { result < end + 1 → spare_to firsts.now forth.now back.now node.now via.now from.now result ≡ 0 }
+    ensures before { (j : ℕ) → 1 ≤ j → On from.now end j → j < result → 1 ≤ spare_to firsts.now forth.now back.now node.now via.now from.now j }
 {
     let mut used = end + 1;
     let mut j = end;

@@ -68,7 +68,7 @@ fn tick(mark: &mut [u8], v: usize)
 
 // The nodes from place `cut` on are no longer reached.
 pub fn unmark(node: &[usize; DEVICES], mark: &mut [u8], cut: usize, count: usize)
-    requires cut_le_count { (cut ≤ count) × (count ≤ 128) × (length mark.old ≡ 128) }
+    requires places { (cut ≤ count) × (count ≤ 128) × (length mark.old ≡ 128) }
     requires marks { Marks node.now mark.old count }
     ensures { Marks node.now mark.new cut }
 {
@@ -96,11 +96,11 @@ fn look(
     l: usize,
 ) -> Seen
     requires laid { Laid firsts.now seconds.now }
-    requires h_lt_count { (h < count) × (l < length firsts.now) × (touches firsts.now seconds.now l (get_or node.old h 0) ≡ true) }
+    requires line { (h < count) × (l < length firsts.now) × (touches firsts.now seconds.now l (get_or node.old h 0) ≡ true) }
     requires scan { Scan firsts.now seconds.now forth.now back.now drain.now (get_or node.old 0 0) node.old via.old from.old mark.old count h (l + 1) }
-    ensures scan_2 { (result.found ≡ false) → Scan firsts.now seconds.now forth.now back.now drain.now (get_or node.old 0 0) node.new via.new from.new mark.new result.count h l }
+    ensures scan_after { (result.found ≡ false) → Scan firsts.now seconds.now forth.now back.now drain.now (get_or node.old 0 0) node.new via.new from.new mark.new result.count h l }
     ensures found { (result.found ≡ true) → Found firsts.now seconds.now forth.now back.now drain.now (get_or node.old 0 0) node.new via.new from.new mark.new result.count h l }
-    ensures count_le_count { (count ≤ result.count) × (get_or node.new h 0 ≡ get_or node.old h 0) }
+    ensures kept { (count ≤ result.count) × (get_or node.new h 0 ≡ get_or node.old h 0) }
 {
     let u = node[h];
     let spare = spare_from(firsts, forth, back, l, u);
@@ -152,7 +152,7 @@ fn spread(
 ) -> Front
     requires laid { Laid firsts.now seconds.now }
     requires priors { Priors firsts.now seconds.now (length firsts.now) before_first.now before_second.now }
-    requires h_lt_counted { h < counted }
+    requires place_there { h < counted }
     requires standing { Standing firsts.now seconds.now forth.now back.now drain.now (get_or node.old 0 0) node.old via.old from.old mark.old counted h resting }
     ensures scan { (result.found ≡ false) → Scan firsts.now seconds.now forth.now back.now drain.now (get_or node.old 0 0) node.new via.new from.new mark.new result.count (h + 1) (length firsts.now) }
     ensures found { (result.found ≡ true) → Found firsts.now seconds.now forth.now back.now drain.now (get_or node.old 0 0) node.new via.new from.new mark.new result.count result.place result.rest }
@@ -188,8 +188,8 @@ fn spread(
 // One more than the last line of the node at place h, and 0 where none stands there.
 fn last_line(last: &[usize; DEVICES], node: &[usize; DEVICES], count: usize, h: usize) -> usize
     requires { (count ≤ 128) × (h < count → get_or node.now h 0 < 128) }
-    ensures value { h < count → result ≡ get_or last.now (get_or node.now h 0) 0 }
-    ensures value_2 { count ≤ h → result ≡ 0 }
+    ensures there { h < count → result ≡ get_or last.now (get_or node.now h 0) 0 }
+    ensures none { count ≤ h → result ≡ 0 }
 {
     if count <= h {
         return 0;
@@ -266,11 +266,11 @@ fn begin(
     d: usize,
 ) -> Front
     requires { d < 128 }
-    ensures count_value { (result.count ≡ 1) × (result.place ≡ 0) × (result.rest ≡ get_or last.now d 0) }
-    ensures d_value { (result.found ≡ false) → get_or drain.now d 0 ≡ 0 }
-    ensures bound { (result.found ≡ true) → 1 ≤ get_or drain.now d 0 }
-    ensures node_after { get_or node.new 0 0 ≡ d }
-    ensures by_index { (v : ℕ) → v < 128 → get_or mark.new v 0 ≡ cond (eqb v d) 1 0 }
+    ensures first { (result.count ≡ 1) × (result.place ≡ 0) × (result.rest ≡ get_or last.now d 0) }
+    ensures dry { (result.found ≡ false) → get_or drain.now d 0 ≡ 0 }
+    ensures wet { (result.found ≡ true) → 1 ≤ get_or drain.now d 0 }
+    ensures root { get_or node.new 0 0 ≡ d }
+    ensures marks { (v : ℕ) → v < 128 → get_or mark.new v 0 ≡ cond (eqb v d) 1 0 }
 {
     *mark = [0; DEVICES];
     tick(mark, d);
@@ -304,7 +304,7 @@ pub fn search(
     rest: usize,
 ) -> Front
     requires laid { Laid firsts.now seconds.now }
-    requires d_bound { d < 128 }
+    requires device { d < 128 }
     requires lasts { Lasts firsts.now seconds.now (length firsts.now) last.now }
     requires priors { Priors firsts.now seconds.now (length firsts.now) before_first.now before_second.now }
     requires standing { 1 ≤ count → Standing firsts.now seconds.now forth.now back.now drain.now d node.old via.old from.old mark.old count place rest }

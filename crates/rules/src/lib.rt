@@ -1,4 +1,5 @@
 // The rules of document 01 as definitions (specs/) and the laws proved of them (proofs/), which the crates above cite.
+#![tactic(auto)]
 
 // "devices n: 1 to 128"
 pub const DEVICES: usize = 128;

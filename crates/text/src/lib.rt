@@ -1,5 +1,7 @@
 // The text part: reading a plant text into lent lists, writing one, and listing the hierarchy of the plant that a text states.
 // Document 01, "Plant text and listing".
+#![tactic(auto)]
+
 mod lines;
 mod listing;
 pub mod read;

@@ -7,8 +7,8 @@ use crate::write::{put, put_field};
 
 // Writes the devices after h of the group with head h, each behind a comma.
 fn put_others(bytes: &mut [u8], at: usize, n: usize, level: &[usize], h: usize) -> usize
-    requires n_bound { (n ≤ 128) × (length level.now ≡ n) × (h < n) }
-    requires h_in_bounds { at + length (others_text level.now h (suc h) (n - suc h)) ≤ length bytes.old }
+    requires small { (n ≤ 128) × (length level.now ≡ n) × (h < n) }
+    requires room { at + length (others_text level.now h (suc h) (n - suc h)) ≤ length bytes.old }
     ensures { (result ≡ at + length (others_text level.now h (suc h) (n - suc h)))
         × (bytes.new ≡ placed bytes.old at (others_text level.now h (suc h) (n - suc h))) }
 {
@@ -25,8 +25,8 @@ fn put_others(bytes: &mut [u8], at: usize, n: usize, level: &[usize], h: usize) 
 
 // Writes the row of the group with head h.
 fn put_group(bytes: &mut [u8], at: usize, n: usize, level: &[usize], h: usize) -> usize
-    requires n_bound { (n ≤ 128) × (length level.now ≡ n) × (h < n) }
-    requires h_in_bounds { at + length (group_text n level.now h) ≤ length bytes.old }
+    requires small { (n ≤ 128) × (length level.now ≡ n) × (h < n) }
+    requires room { at + length (group_text n level.now h) ≤ length bytes.old }
     ensures { (result ≡ at + length (group_text n level.now h))
         × (bytes.new ≡ placed bytes.old at (group_text n level.now h)) }
 {
@@ -38,8 +38,8 @@ fn put_group(bytes: &mut [u8], at: usize, n: usize, level: &[usize], h: usize) -
 
 // Writes the rows of all groups of a level.
 fn put_groups(bytes: &mut [u8], at: usize, n: usize, level: &[usize]) -> usize
-    requires n_bound { (n ≤ 128) × (length level.now ≡ n) }
-    requires n_in_bounds { at + length (groups_text n level.now 0 n) ≤ length bytes.old }
+    requires small { (n ≤ 128) × (length level.now ≡ n) }
+    requires room { at + length (groups_text n level.now 0 n) ≤ length bytes.old }
     ensures { (result ≡ at + length (groups_text n level.now 0 n))
         × (bytes.new ≡ placed bytes.old at (groups_text n level.now 0 n)) }
 {
@@ -93,8 +93,8 @@ fn put_level(
     p: usize,
     q: usize,
 ) -> usize
-    requires n_bound { (n ≤ 128) × (length level.now ≡ n) }
-    requires q_in_bounds { at + length (level_text n i level.now has p q) ≤ length bytes.old }
+    requires small { (n ≤ 128) × (length level.now ≡ n) }
+    requires room { at + length (level_text n i level.now has p q) ≤ length bytes.old }
     ensures { (result ≡ at + length (level_text n i level.now has p q))
         × (bytes.new ≡ placed bytes.old at (level_text n i level.now has p q)) }
 {
@@ -115,8 +115,8 @@ fn put_levels(
     low_p: &[usize],
     low_q: &[usize],
 ) -> usize
-    requires n_bound { (n ≤ 128) × (levels ≤ n) × (levels * n ≤ length labels.now) × (levels ≤ length low_p.now) × (levels ≤ length low_q.now) }
-    requires levels_in_bounds { at + length (levels_text n levels (λ i. take n (drop (i * n) labels.now)) (λ i. get_or low_p.now i 0) (λ i. get_or low_q.now i 0) 0 levels) ≤ length bytes.old }
+    requires small { (n ≤ 128) × (levels ≤ n) × (levels * n ≤ length labels.now) × (levels ≤ length low_p.now) × (levels ≤ length low_q.now) }
+    requires room { at + length (levels_text n levels (λ i. take n (drop (i * n) labels.now)) (λ i. get_or low_p.now i 0) (λ i. get_or low_q.now i 0) 0 levels) ≤ length bytes.old }
     ensures { (result ≡ at + length (levels_text n levels (λ i. take n (drop (i * n) labels.now)) (λ i. get_or low_p.now i 0) (λ i. get_or low_q.now i 0) 0 levels))
         × (bytes.new ≡ placed bytes.old at (levels_text n levels (λ i. take n (drop (i * n) labels.now)) (λ i. get_or low_p.now i 0) (λ i. get_or low_q.now i 0) 0 levels)) }
 {
@@ -151,8 +151,8 @@ pub(crate) fn put_listing(
     low_p: &[usize],
     low_q: &[usize],
 ) -> usize
-    requires n_bound { (n ≤ 128) × (levels ≤ n) × (levels * n ≤ length labels.now) × (levels ≤ length low_p.now) × (levels ≤ length low_q.now) }
-    requires i_in_bounds { length (listing n levels (λ i. take n (drop (i * n) labels.now)) (λ i. get_or low_p.now i 0) (λ i. get_or low_q.now i 0)) ≤ length bytes.old }
+    requires small { (n ≤ 128) × (levels ≤ n) × (levels * n ≤ length labels.now) × (levels ≤ length low_p.now) × (levels ≤ length low_q.now) }
+    requires room { length (listing n levels (λ i. take n (drop (i * n) labels.now)) (λ i. get_or low_p.now i 0) (λ i. get_or low_q.now i 0)) ≤ length bytes.old }
     ensures { (result ≡ length (listing n levels (λ i. take n (drop (i * n) labels.now)) (λ i. get_or low_p.now i 0) (λ i. get_or low_q.now i 0)))
         × (bytes.new ≡ placed bytes.old 0 (listing n levels (λ i. take n (drop (i * n) labels.now)) (λ i. get_or low_p.now i 0) (λ i. get_or low_q.now i 0))) }
 {

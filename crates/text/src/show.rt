@@ -20,7 +20,7 @@ fn show_plant(
     space: &mut [u8],
 ) -> usize
     requires accepted { Accepted n firsts.now seconds.now signals.now }
-    requires in_bounds { 262144 ≤ length space.old }
+    requires room { 262144 ≤ length space.old }
     ensures { ShownPlant (plant_of n firsts.now seconds.now signals.now) space.old result space.new }
 {
     // n × n labels of at most 128 devices

@@ -70,8 +70,8 @@ fn put_rows(
     seconds: &[usize],
     signals: &[usize],
 ) -> usize
-    requires firsts_len { (length firsts.now ≡ length seconds.now) × (length seconds.now ≡ length signals.now) }
-    requires signals_in_bounds { at + length (rows_text firsts.now seconds.now signals.now) ≤ length bytes.old }
+    requires lists { (length firsts.now ≡ length seconds.now) × (length seconds.now ≡ length signals.now) }
+    requires room { at + length (rows_text firsts.now seconds.now signals.now) ≤ length bytes.old }
     ensures { (result ≡ at + length (rows_text firsts.now seconds.now signals.now))
         × (bytes.new
         ≡ placed bytes.old at (rows_text firsts.now seconds.now signals.now)) }
@@ -102,8 +102,8 @@ fn row_len(a: usize, b: usize, s: usize) -> usize
 
 // How many bytes the rows of all lines take.
 fn rows_len(firsts: &[usize], seconds: &[usize], signals: &[usize]) -> usize
-    requires firsts_len { (length firsts.now ≡ length seconds.now) × (length seconds.now ≡ length signals.now) }
-    requires firsts_len_bound { length firsts.now ≤ 1024 }
+    requires lists { (length firsts.now ≡ length seconds.now) × (length seconds.now ≡ length signals.now) }
+    requires few { length firsts.now ≤ 1024 }
     ensures { (result ≡ length (rows_text firsts.now seconds.now signals.now)) × (result ≤ 35840) }
 {
     let mut sum: usize = 0;
@@ -117,8 +117,8 @@ fn rows_len(firsts: &[usize], seconds: &[usize], signals: &[usize]) -> usize
 
 // Writes the text of a plant to the front of the list.
 fn put_plant(n: usize, firsts: &[usize], seconds: &[usize], signals: &[usize], bytes: &mut [u8])
-    requires firsts_len { (length firsts.now ≡ length seconds.now) × (length seconds.now ≡ length signals.now) }
-    requires signals_in_bounds { length (plant_text n firsts.now seconds.now signals.now) ≤ length bytes.old }
+    requires lists { (length firsts.now ≡ length seconds.now) × (length seconds.now ≡ length signals.now) }
+    requires room { length (plant_text n firsts.now seconds.now signals.now) ≤ length bytes.old }
     ensures { bytes.new
         ≡ placed bytes.old 0 (plant_text n firsts.now seconds.now signals.now) }
 {

@@ -1,4 +1,6 @@
 // The hierarchy call for a program in C that measures it. It answers the number of levels alone, 0 after a refusal.
+#![tactic(auto)]
+
 ghost use Rattle.timing.specs.Timed.{TimedIs};
 
 use grouping::hierarchy::hierarchy;
