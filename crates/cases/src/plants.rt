@@ -1,7 +1,7 @@
 // Plants made by a rule, in lists that the caller lends.
 
 // The two ends of a line.
-#[derive(Drop)]
+#[derive(Clone, Copy)]
 struct Ends {
     a: usize,
     b: usize,

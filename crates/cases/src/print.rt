@@ -2,14 +2,14 @@
 use libc::STDOUT_FILENO;
 
 // How many cases were run, and how many of them did not answer as expected.
-#[derive(Drop)]
+#[derive(Clone, Copy)]
 pub struct Tally {
     pub cases: u64,
     pub wrong: u64,
 }
 
 // How far a printed answer was held against the expected one, and whether they agree so far.
-#[derive(Drop)]
+#[derive(Clone, Copy)]
 pub struct Line {
     pub at: usize,
     pub same: bool,

@@ -2,7 +2,7 @@
 ghost use Rattle.std.specs.Prelude.{◌≤◌, length};
 
 // The numbers of a text as far as it is read: how many are complete, the one that is being read, and whether a number or a word is.
-#[derive(Drop)]
+#[derive(Clone, Copy)]
 pub struct Numbers {
     pub count: usize,
     pub list: [usize; 64],
@@ -12,7 +12,7 @@ pub struct Numbers {
 }
 
 // How many devices and how many lines a plant has.
-#[derive(Drop)]
+#[derive(Clone, Copy)]
 pub struct Size {
     pub n: usize,
     pub lines: usize,

@@ -16,7 +16,7 @@ use crate::sets::own_communities;
 use rules::DEVICES;
 
 // Number and place, and of an accepted call the size and the out of the community.
-#[derive(Drop)]
+#[derive(Clone, Copy)]
 pub struct Answer {
     pub number: usize,
     pub place: usize,

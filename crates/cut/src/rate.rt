@@ -4,14 +4,14 @@ ghost use Rattle.rules.specs.Rates.{rate_ok};
 ghost use Rattle.cut.specs.RateCalls.{compared, Reduction};
 ghost use Rattle.cut.specs.RateLoop.{Divisor};
 
-#[derive(Drop)]
+#[derive(Clone, Copy)]
 pub struct Rate {
     pub p: usize,
     pub q: usize,
 }
 
 // The answer of a comparison: order is 1 where the first rate is below the second, 2 where they are the same fraction, 3 where it is above.
-#[derive(Drop)]
+#[derive(Clone, Copy)]
 pub struct Compared {
     pub number: usize,
     pub place: usize,
@@ -19,7 +19,7 @@ pub struct Compared {
 }
 
 // The answer of a reduction: the rate in lowest terms.
-#[derive(Drop)]
+#[derive(Clone, Copy)]
 pub struct Reduced {
     pub number: usize,
     pub place: usize,

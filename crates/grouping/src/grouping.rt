@@ -8,7 +8,7 @@ use cut::rate::Rate;
 use rules::DEVICES;
 
 // Number and place, and of an accepted call the number of groups.
-#[derive(Drop)]
+#[derive(Clone, Copy)]
 pub struct Grouping {
     pub number: usize,
     pub place: usize,

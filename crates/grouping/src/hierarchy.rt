@@ -13,7 +13,7 @@ use cut::rate::Rate;
 use rules::DEVICES;
 
 // Number and place, and of an accepted call the number of levels.
-#[derive(Drop)]
+#[derive(Clone, Copy)]
 pub struct Levels {
     pub number: usize,
     pub place: usize,

@@ -13,7 +13,7 @@ use cut::rate::Rate;
 use rules::Refusal;
 
 // Number and place, and of an accepted call the joining rate p/q.
-#[derive(Drop)]
+#[derive(Clone, Copy)]
 pub struct Joining {
     pub number: usize,
     pub place: usize,

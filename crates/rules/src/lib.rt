@@ -11,7 +11,7 @@ pub const LINES: usize = 1024;
 pub const SIGNALS: usize = 65535;
 
 // "Each call .. answers a number and a place. 0 means done, with place 0."
-#[derive(Drop)]
+#[derive(Clone, Copy)]
 pub struct Refusal {
     pub number: usize,
     pub place: usize,

@@ -11,7 +11,7 @@ mod whole;
 pub mod write;
 
 // What stands at a place, where a number should: whether it is one, its value, and how many bytes it takes.
-#[derive(Drop)]
+#[derive(Clone, Copy)]
 pub(crate) struct Number {
     pub ok: bool,
     pub value: usize,
@@ -19,7 +19,7 @@ pub(crate) struct Number {
 }
 
 // What stands at a place, where a row should.
-#[derive(Drop)]
+#[derive(Clone, Copy)]
 pub(crate) struct Row {
     pub ok: bool,
     pub first: usize,
@@ -29,14 +29,14 @@ pub(crate) struct Row {
 }
 
 // How many rows are as expected, and how many bytes they take.
-#[derive(Drop)]
+#[derive(Clone, Copy)]
 pub(crate) struct Passed {
     pub rows: usize,
     pub used: usize,
 }
 
 // The form of a text: the text line that is not as expected, or 0; the stated numbers; how many bytes come before the rows.
-#[derive(Drop)]
+#[derive(Clone, Copy)]
 pub(crate) struct Form {
     pub line: usize,
     pub devices: usize,
@@ -45,7 +45,7 @@ pub(crate) struct Form {
 }
 
 // What reading answers.
-#[derive(Drop)]
+#[derive(Clone, Copy)]
 pub struct Reading {
     pub number: usize,
     pub place: usize,
@@ -54,7 +54,7 @@ pub struct Reading {
 }
 
 // What writing and listing answer.
-#[derive(Drop)]
+#[derive(Clone, Copy)]
 pub struct Written {
     pub number: usize,
     pub place: usize,

@@ -1,0 +1,20 @@
+-- `cut::community::count_marks` meets its contract. The loop's invariant: size is the sum of the first v marks. The measure is the number left.
+-- Assumes nothing.
+use Prim.Native.Nat.{◌-◌}
+use mathlib.Core.Path.{refl}
+use native.Mathlib.Omega.{arith}
+use lib.ListN.{get_or}
+use Rattle.rules.proofs.SumLoop.{Summed, summed-start, summed-more, summed-most, summed-done}
+use borrow.Author.Rules.{rules}
+use Rattle.cut.proofs.community.count_marks.Goals as goal
+
+pub loop-v-init : goal.loop-v-init
+loop-v-init c = summed-start _ _
+
+pub overflow_add-size : goal.overflow_add-size
+overflow_add-size c =
+    let most = summed-most _ _ c.loop-v.invariant c.loop-v-test.true 1 _ c.requires.1 refl in
+    omega (arith, most, c.requires.0)
+
+pub loop-v-preserved : goal.loop-v-preserved
+loop-v-preserved c = summed-more _ _ c.loop-v.invariant c.loop-v-test.true _ refl

@@ -1,0 +1,15 @@
+-- `cut::community::count_marks` meets its contract. The loop's invariant: size is the sum of the first v marks. The measure is the number left.
+-- Assumes nothing.
+use Prim.Native.Nat.{◌-◌}
+use mathlib.Core.Path.{refl}
+use native.Mathlib.Omega.{arith}
+use lib.ListN.{get_or}
+use Rattle.rules.proofs.SumLoop.{Summed, summed-start, summed-more, summed-most, summed-done}
+use borrow.Author.Rules.{rules}
+use Rattle.cut.proofs.community.count_marks.Given as goal
+
+abbrev pub invariant-loop-v : goal.invariant-loop-v
+invariant-loop-v l = Summed l.n (λ u. get_or l.mark u 0) l.size l.v
+
+abbrev pub decreases-loop-v : goal.decreases-loop-v
+decreases-loop-v l = l.n - l.v
