@@ -1,10 +1,9 @@
 -- A node that no line touches is its own least set: it alone costs its drain, and every set that holds it costs at least that.
 -- Assumes nothing.
-use Prim.Native.Nat.{ℕ, zero, suc, ◌+◌, ◌≤◌, ◌<◌, zero-le}
-use mathlib.Core.Path.{◌≡◌, refl, sym, ap, ap₂, ◌∙◌}
+use Prim.Native.Nat.{ℕ, zero, suc, ◌≤◌, ◌<◌, zero-le}
+use mathlib.Core.Path.{◌≡◌, refl, sym, ◌∙◌}
 use mathlib.Core.Bool.{Bool, true, false, ◌||◌, cond, true≢false, false≢true}
 use mathlib.Core.List.{List}
-use native.Mathlib.Nat.{le_trans, le_of_eq}
 use native.Mathlib.Decide.{ℕ_discrete, dec_lt}
 use native.Mathlib.Omega.{arith}
 use lib.Dec.{eqb}
@@ -15,7 +14,6 @@ use Rattle.rules.specs.Plant.{lines_of}
 use Rattle.rules.specs.Cut.{Devices, crossing, out}
 use Rattle.rules.specs.Groups.{table}
 use Rattle.rules.specs.Lists.{over}
-use Rattle.rules.specs.Numbers.{sum}
 use Rattle.rules.specs.Network.{drained, net_cost, IsLeast}
 use Rattle.rules.proofs.FillLaws.{over-front, over-rest, over-size}
 use Rattle.rules.proofs.SumLaws.{zero-sum, out-sum}

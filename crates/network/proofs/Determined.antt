@@ -1,12 +1,10 @@
 -- The contract of the public call determines what it answers and leaves in the owners: two results that it allows are equal.
 -- Assumes nothing.
 use Prim.Native.Nat.{ℕ}
-use mathlib.Core.Path.{◌≡◌, refl, sym, ap, ◌∙◌}
+use mathlib.Core.Path.{◌≡◌, refl, sym, ◌∙◌}
 use mathlib.Core.Bool.{Bool, true, false}
 use mathlib.Core.List.{List}
 use native.Mathlib.Nat.{le_refl}
-use Rattle.rules.specs.Cut.{Devices}
-use Rattle.rules.specs.Lists.{over}
 use Rattle.rules.specs.Sweep.{wanted_in}
 use Rattle.rules.proofs.FillLaws.{over_agree}
 use Rattle.rules.proofs.NetworkLaws.{least-only}

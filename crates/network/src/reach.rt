@@ -225,7 +225,7 @@ fn go_on(
     let mut count = front.count;
     let mut h = front.place;
     let mut rest = front.rest;
-    while h < count {
+    'queue: while h < count {
         let next = spread(
             firsts,
             seconds,

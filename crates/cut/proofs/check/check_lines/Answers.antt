@@ -18,15 +18,15 @@ left : (c : Left-lines) → lines_fault c.args.n c.args.firsts.now c.args.second
 left c =
     let inv = c.lines.invariant in
     elim c.lines-test.branch [
-      else-lines-test w ↦ rw w.number-is (passed-all _ _ _ _ inv w.lines-test.false)
-    | then-lines-test+then-beyond w ↦
-        rw w.number-is (passed-found _ _ _ _ inv w.lines-test.true 4 (breaks-5 _ _ _ _ _ (sym w.beyond.ensures ∙ w.if-beyond.true)))
-    | then-lines-test+else-beyond+then-b-a w ↦
-        rw w.number-is (passed-found _ _ _ _ inv w.lines-test.true 5 (breaks-6 _ _ _ _ _ (sym w.beyond.ensures ∙ w.if-beyond.false) w.if-b-a.true))
-    | then-lines-test+else-beyond+else-b-a+then-not-rising w ↦
-        rw w.number-is (passed-found _ _ _ _ inv w.lines-test.true 6 (breaks-7 _ _ _ _ _ (sym w.beyond.ensures ∙ w.if-beyond.false) w.if-b-a.false (sym w.rising.ensures ∙ w.if-not-rising.true)))
-    | then-lines-test+else-beyond+else-b-a+else-not-rising+then-off_range w ↦
-        rw w.number-is (passed-found _ _ _ _ inv w.lines-test.true 7 (breaks-8 _ _ _ _ _ (sym w.beyond.ensures ∙ w.if-beyond.false) w.if-b-a.false (sym w.rising.ensures ∙ w.if-not-rising.false) (sym w.off_range.ensures ∙ w.if-off_range.true)))
+      | else-lines-test w ↦ rw w.number-is (passed-all _ _ _ _ inv w.lines-test.false)
+      | then-lines-test+then-beyond w ↦
+          rw w.number-is (passed-found _ _ _ _ inv w.lines-test.true 4 (breaks-5 _ _ _ _ _ (sym w.beyond.ensures ∙ w.if-beyond.true)))
+      | then-lines-test+else-beyond+then-b-a w ↦
+          rw w.number-is (passed-found _ _ _ _ inv w.lines-test.true 5 (breaks-6 _ _ _ _ _ (sym w.beyond.ensures ∙ w.if-beyond.false) w.if-b-a.true))
+      | then-lines-test+else-beyond+else-b-a+then-not-rising w ↦
+          rw w.number-is (passed-found _ _ _ _ inv w.lines-test.true 6 (breaks-7 _ _ _ _ _ (sym w.beyond.ensures ∙ w.if-beyond.false) w.if-b-a.false (sym w.rising.ensures ∙ w.if-not-rising.true)))
+      | then-lines-test+else-beyond+else-b-a+else-not-rising+then-off_range w ↦
+          rw w.number-is (passed-found _ _ _ _ inv w.lines-test.true 7 (breaks-8 _ _ _ _ _ (sym w.beyond.ensures ∙ w.if-beyond.false) w.if-b-a.false (sym w.rising.ensures ∙ w.if-not-rising.false) (sym w.off_range.ensures ∙ w.if-off_range.true)))
     ]
 
 pub returns-then-number-eq0 : goal.returns-then-number-eq0
