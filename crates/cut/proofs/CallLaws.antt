@@ -10,7 +10,7 @@ use borrow.Author.Tests.{eq-eqb, ne_eqb, le-leb, lt-leb, le-ltb, lt-ltb}
 use lib.Dec.{eqb, lit≤}
 use lib.ListN.{length, get_or, set, replicate}
 use Rattle.rules.specs.declared.Refusal.{Refusal}
-use Rattle.rules.specs.Plant.{Plant, plant_of}
+use Rattle.rules.specs.Plant.{plant_of}
 use Rattle.rules.specs.Accepted.{Accepted}
 use Rattle.rules.specs.Cut.{Devices, size, out}
 use Rattle.rules.specs.Community.{community}

@@ -31,7 +31,7 @@ use Rattle.rules.proofs.FillLaws.{over_agree, over-front, over-size}
 use Rattle.rules.proofs.SumLaws.{sum-agree, sum-scale, size-one, out-sum, size-sum}
 use Rattle.rules.proofs.NetworkLaws.{drained-agree, drained-scale, least-community}
 use Rattle.rules.proofs.SweepLaws.{sweep-sought}
-use Rattle.network.specs.Calls.{LineFits, Network, Taken, OwnersOf, OwnersAre}
+use Rattle.network.specs.Calls.{Network, OwnersOf, OwnersAre}
 
 -- q times the signals of a line that crosses, or of none
 crossing-wide : (q s : ℕ) (a b : Bool) → crossing (q * s) a b ≡ q * crossing s a b

@@ -3,7 +3,7 @@
 use Rattle.std.proofs.Common.{◌≡◌, sym, ◌∙◌}
 use borrow.Author.Tests.{ne_eqb}
 use Rattle.rules.specs.Refusals.{lines_fault}
-use Rattle.cut.proofs.CheckLaws.{answer, Passed, passed_start, passed-step, passed-found, passed-all, breaks-5, breaks-6, breaks-7, breaks-8, breaks-none}
+use Rattle.cut.proofs.CheckLaws.{answer, passed_start, passed-step, passed-found, passed-all, breaks-5, breaks-6, breaks-7, breaks-8, breaks-none}
 use Rattle.cut.proofs.check.check_lines.Goals as goal
 use Rattle.cut.proofs.check.check_lines.Goals.{Left-lines, else-lines-test, then-lines-test+then-beyond, then-lines-test+else-beyond+then-b-a, then-lines-test+else-beyond+else-b-a+then-not-rising, then-lines-test+else-beyond+else-b-a+else-not-rising+then-off_range}
 

@@ -1,7 +1,6 @@
 -- `cut::check::check_plant` meets its contract: each way out is the definition's answer at the tests that led there.
 -- Assumes nothing.
 use mathlib.Core.Path.{sym, ◌∙◌}
-use borrow.Author.Rules.{rules}
 use Rattle.cut.proofs.CheckLaws.{plant-none, plant-many, plant-uneven, plant-uneven', plant-long, plant-lines}
 use Rattle.cut.proofs.check.check_plant.Goals as goal
 

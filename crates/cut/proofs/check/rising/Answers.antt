@@ -1,6 +1,5 @@
 -- `cut::check::rising` meets its contract: line 0 rises, and of a later one each way is what `rises-at` computes to.
 -- Assumes nothing.
-use borrow.Author.Rules.{rules}
 use borrow.Author.Tests.{lt-ltb, le-ltb, eq-eqb, ne_eqb}
 use Rattle.rules.specs.Refusals.{rises}
 use Rattle.cut.proofs.CheckLaws.{rises-at}

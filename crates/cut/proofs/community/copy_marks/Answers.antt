@@ -1,10 +1,6 @@
 -- `cut::community::copy_marks` meets its contract. The loop's invariant: the first v marks are filled in. The measure is the number left.
 -- Assumes nothing.
-use Prim.Native.Nat.{◌-◌}
-use mathlib.Core.Path.{refl}
-use lib.ListN.{get_or}
-use Rattle.rules.proofs.FillLaws.{Filled, filled-start, filled_more, filled-done}
-use borrow.Author.Rules.{rules}
+use Rattle.rules.proofs.FillLaws.{filled-done}
 use Rattle.cut.proofs.community.copy_marks.Goals as goal
 
 pub returns : goal.returns

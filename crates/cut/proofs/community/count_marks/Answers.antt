@@ -1,11 +1,8 @@
 -- `cut::community::count_marks` meets its contract. The loop's invariant: size is the sum of the first v marks. The measure is the number left.
 -- Assumes nothing.
-use Prim.Native.Nat.{◌-◌}
 use mathlib.Core.Path.{refl}
 use native.Mathlib.Omega.{arith}
-use lib.ListN.{get_or}
-use Rattle.rules.proofs.SumLoop.{Summed, summed-start, summed-more, summed-most, summed-done}
-use borrow.Author.Rules.{rules}
+use Rattle.rules.proofs.SumLoop.{summed-start, summed-more, summed-most}
 use Rattle.cut.proofs.community.count_marks.Goals as goal
 
 pub loop-v-init : goal.loop-v-init

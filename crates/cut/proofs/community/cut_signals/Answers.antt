@@ -1,12 +1,11 @@
 -- `cut::community::cut_signals` meets its contract. The loop's invariant: out is the sum over the first l lines. The measure is the number left.
 -- Assumes nothing.
-use Prim.Native.Nat.{ℕ, ◌-◌, ◌≤◌}
+use Prim.Native.Nat.{ℕ, ◌≤◌}
 use mathlib.Core.Bool.{Bool, true, false, cond}
 use native.Mathlib.Omega.{arith}
 use lib.Dec.{eqb}
-use lib.ListN.{length, get_or}
-use Rattle.rules.proofs.SumLoop.{Summed, summed-start, summed-more, summed-most, summed-done}
-use borrow.Author.Rules.{rules}
+use lib.ListN.{get_or}
+use Rattle.rules.proofs.SumLoop.{summed-start, summed-more, summed-most}
 use Rattle.cut.proofs.community.cut_signals.Goals as goal
 
 off : (t : Bool) (x : ℕ) → x ≤ 65535 → cond t 0 x ≤ 65535

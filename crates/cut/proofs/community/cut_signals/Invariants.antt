@@ -1,12 +1,10 @@
 -- `cut::community::cut_signals` meets its contract. The loop's invariant: out is the sum over the first l lines. The measure is the number left.
 -- Assumes nothing.
-use Prim.Native.Nat.{ℕ, ◌-◌, ◌≤◌}
-use mathlib.Core.Bool.{Bool, true, false, cond}
-use native.Mathlib.Omega.{arith}
+use Prim.Native.Nat.{◌-◌}
+use mathlib.Core.Bool.{cond}
 use lib.Dec.{eqb}
 use lib.ListN.{length, get_or}
-use Rattle.rules.proofs.SumLoop.{Summed, summed-start, summed-more, summed-most, summed-done}
-use borrow.Author.Rules.{rules}
+use Rattle.rules.proofs.SumLoop.{Summed}
 use Rattle.cut.proofs.community.cut_signals.Given as goal
 
 abbrev pub invariant-loop-l : goal.invariant-loop-l

@@ -1,12 +1,10 @@
 -- `cut::community::mark_owned` meets its contract. The loop's invariant: the first v marks are set. The measure is the number left.
 -- Assumes nothing.
-use Prim.Native.Nat.{ℕ, ◌-◌}
+use Prim.Native.Nat.{◌-◌}
 use mathlib.Core.Bool.{cond}
-use native.Mathlib.Omega.{arith}
 use lib.Dec.{eqb}
-use lib.ListN.{get_or, length-replicate}
-use Rattle.rules.proofs.FillLaws.{Filled, filled-start, filled_more}
-use borrow.Author.Rules.{rules}
+use lib.ListN.{get_or}
+use Rattle.rules.proofs.FillLaws.{Filled}
 use Rattle.cut.proofs.community.mark_owned.Given as goal
 
 abbrev pub invariant-loop-v : goal.invariant-loop-v

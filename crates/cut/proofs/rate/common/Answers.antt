@@ -1,8 +1,6 @@
 -- `cut::rate::common` meets its contract. The loop's invariant: a and b have the common divisors of p and q. The measure is b.
 -- Assumes nothing.
-use native.Mathlib.Nat.{mod-lt}
-use borrow.Author.Rules.{rules}
-use Rattle.cut.proofs.RateLaws.{Alike, alike-start, alike-step, alike-done}
+use Rattle.cut.proofs.RateLaws.{alike-step, alike-done}
 use Rattle.cut.proofs.rate.common.Goals as goal
 
 pub loop-b-preserved : goal.loop-b-preserved

@@ -1,8 +1,6 @@
 -- `cut::rate::common` meets its contract. The loop's invariant: a and b have the common divisors of p and q. The measure is b.
 -- Assumes nothing.
-use native.Mathlib.Nat.{mod-lt}
-use borrow.Author.Rules.{rules}
-use Rattle.cut.proofs.RateLaws.{Alike, alike-start, alike-step, alike-done}
+use Rattle.cut.proofs.RateLaws.{Alike}
 use Rattle.cut.proofs.rate.common.Given as goal
 
 abbrev pub invariant-loop-b : goal.invariant-loop-b

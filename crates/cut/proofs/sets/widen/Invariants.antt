@@ -1,12 +1,8 @@
 -- `cut::sets::widen` meets its contract. The loop's invariant: the lines below l have their width. The measure is the number of lines left.
 -- Assumes nothing.
 use Prim.Native.Nat.{◌-◌, ◌*◌}
-use mathlib.Core.Path.{refl}
-use native.Mathlib.Nat.{mul-le-mul}
-use native.Mathlib.Omega.{arith}
 use lib.ListN.{length, get_or}
-use Rattle.rules.proofs.FillLaws.{Filled, filled-start, filled_more, filled-done}
-use borrow.Author.Rules.{rules}
+use Rattle.rules.proofs.FillLaws.{Filled}
 use Rattle.cut.proofs.sets.widen.Given as goal
 
 abbrev pub invariant-loop-l : goal.invariant-loop-l

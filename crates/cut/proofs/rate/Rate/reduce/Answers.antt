@@ -2,8 +2,6 @@
 -- Assumes nothing.
 use mathlib.Core.Path.{refl, sym, ◌∙◌}
 use mathlib.Core.Bool.{true≢false}
-use borrow.Author.Rules.{rules}
-use borrow.Author.Tests.{not-true, not-false}
 use Rattle.rules.proofs.RangeLaws.{range-in}
 use Rattle.cut.proofs.RateLaws.{reduced-same, reduced-lowest}
 use Rattle.cut.proofs.rate.Rate.reduce.Goals as goal
