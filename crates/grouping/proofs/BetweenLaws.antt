@@ -2,7 +2,7 @@
 --     between-stands, -network   what the program has made is the network of the finer level's groups, and it is taken
 --     between-swept              the owners of the nodes, given to their devices, are those of a search of enough devices
 -- Assumes nothing.
-use Prim.Native.Nat.{ℕ, ◌*◌, ◌^◌, ◌≤◌, ◌<◌}
+use Prim.Native.Nat.{ℕ, ◌*◌, ◌≤◌, ◌<◌}
 use mathlib.Core.Path.{◌≡◌, refl, sym, ap, ◌∙◌}
 use mathlib.Core.Bool.{Bool, true, false}
 use mathlib.Core.List.{List}
@@ -17,11 +17,10 @@ use Rattle.rules.specs.Accepted.{Accepted, Sound}
 use Rattle.rules.specs.Cut.{Devices, crossing, out}
 use Rattle.rules.specs.Sets.{Inside, Agree}
 use Rattle.rules.specs.Community.{community}
-use Rattle.rules.specs.Groups.{group_of, table}
-use Rattle.rules.specs.Lists.{over}
+use Rattle.rules.specs.Groups.{group_of}
 use Rattle.rules.specs.Numbers.{sum}
 use Rattle.rules.specs.Rates.{rate_ok}
-use Rattle.rules.specs.Sweep.{sweep, Sought, wanted_in}
+use Rattle.rules.specs.Sweep.{sweep, wanted_in}
 use Rattle.rules.specs.Network.{IsLeast}
 use Rattle.rules.specs.Nodes.{inner_cut, Stands}
 use Rattle.rules.proofs.RangeLaws.{range-in}
@@ -29,10 +28,10 @@ use Rattle.rules.proofs.RefusalLaws.{accepted-sound}
 use Rattle.rules.proofs.FillLaws.{over-front}
 use Rattle.rules.proofs.SumLaws.{sum-agree, out-sum}
 use Rattle.rules.proofs.SweepLaws.{sweep-nodes}
-use Rattle.rules.proofs.Instance.{family, sweep-agree}
+use Rattle.rules.proofs.Instance.{family}
 use Rattle.rules.proofs.GroupLaws.{group-holds}
 use Rattle.rules.proofs.NodeNetwork.{inner-sum, stands-between}
-use Rattle.network.specs.Calls.{Network, Taken, OwnersOf, OwnersAre}
+use Rattle.network.specs.Calls.{Network, OwnersOf, OwnersAre}
 use Rattle.grouping.specs.Between.{Joined, Drained, Wide}
 use Rattle.grouping.specs.Level.{owns_itself, Between, Swept}
 use Rattle.grouping.proofs.LevelLaws.{between-walled, between-covers}
