@@ -4,12 +4,12 @@ use Prim.Native.Nat.{ℕ, zero, suc, ◌+◌, ◌*◌, ◌-◌, ◌^◌, ◌≤�
 use native.Mathlib.Nat.{suc-ne-zero, add_assoc, add-zero, lt_of_lt_of_le, le_trans, le_of_eq, mul-le-mul_right, mul_assoc, le-mul_of_pos_right, one-le-pow, zero-lt-suc, pow-succ'}
 use native.Mathlib.Omega.{arith}
 use mathlib.Core.Path.{◌≡◌, refl, sym, ap, ◌∙◌}
-use mathlib.Core.Bool.{Bool, true, false, not, ◌&&◌, cond, true≢false}
+use mathlib.Core.Bool.{Bool, true, false, ◌&&◌, cond, true≢false}
 use mathlib.Core.List.{List, [], ◌∷◌}
 use lib.Dec.{leb, eqb}
 use lib.ListN.{length, get_or, drop, length-drop}
 use lib.Seq.{drop-drop, get_or-drop}
-use borrow.Author.Tests.{eq-eqb, ne_eqb, not-true, not-false, leb-true}
+use borrow.Author.Tests.{eq-eqb, ne_eqb, leb-true}
 use Rattle.text.specs.declared.Number.{Number}
 use Rattle.text.specs.declared.Row.{Row}
 use Rattle.text.specs.Numbers.{is_digit, run, value_of, stated, no_number, well_formed, number_from, number_of}
@@ -120,29 +120,29 @@ field_fits key stop l =
 
 -- a field at a place, by what was found of its parts: g whether the key is there, v the number after it, s whether the end is there
 module _ (t key stop : List ℕ) (at : ℕ) {g : Bool} (e : g ≡ begins key (drop at t)) where
-  pub field-no-key : not g ≡ true → no_number ≡ field key stop (drop at t)
+  pub field-no-key : g ≡ false → no_number ≡ field key stop (drop at t)
   unfolding field
-  field-no-key h = rw (sym e ∙ not-true g h) refl
+  field-no-key h = rw (sym e ∙ h) refl
 
-  pub key-within : not g ≡ false → at ≤ length t → at + length key ≤ length t
-  key-within h p = omega (arith, begins-fits key (drop at t) (sym e ∙ not-false g h), length-drop at t)
+  pub key-within : g ≡ true → at ≤ length t → at + length key ≤ length t
+  key-within h p = omega (arith, begins-fits key (drop at t) (sym e ∙ h), length-drop at t)
 
-  module _ (h : not g ≡ false) {v : Number} (w : v ≡ number_of (drop (at + length key) t)) where
+  module _ (h : g ≡ true) {v : Number} (w : v ≡ number_of (drop (at + length key) t)) where
     pub number-within : at ≤ length t → at + length key + v.used ≤ length t
     number-within p =
         omega (arith, key-within h p, length-drop (at + length key) t, number_fits (drop (at + length key) t), ap (λ (n : Number). n.used) w)
 
-    pub field-no-number : not v.ok ≡ true → no_number ≡ field key stop (drop at t)
+    pub field-no-number : v.ok ≡ false → no_number ≡ field key stop (drop at t)
     unfolding field field_rest
-    field-no-number o = rw (sym e ∙ not-false g h, drop-drop (length key) at t, sym w, not-true v.ok o) refl
+    field-no-number o = rw (sym e ∙ h, drop-drop (length key) at t, sym w, o) refl
 
     module _ {s : Bool} (z : s ≡ begins stop (drop (at + length key + v.used) t)) where
-      pub stop-within : at ≤ length t → not s ≡ false → at + length key + v.used + length stop ≤ length t
+      pub stop-within : at ≤ length t → s ≡ true → at + length key + v.used + length stop ≤ length t
       stop-within p q =
           omega (
             arith,
             number-within p,
-            begins-fits stop (drop (at + length key + v.used) t) (sym z ∙ not-false s q),
+            begins-fits stop (drop (at + length key + v.used) t) (sym z ∙ q),
             length-drop (at + length key + v.used) t,
           )
 
@@ -151,14 +151,14 @@ module _ (t key stop : List ℕ) (at : ℕ) {g : Bool} (e : g ≡ begins key (dr
 
       found : field key stop (drop at t) ≡ cond (v.ok && s) (record { ok = true; value = v.value; used = length key + v.used + length stop }) no_number
       unfolding field field_rest
-      found = rw (sym e ∙ not-false g h, drop-drop (length key) at t, sym w, same_place, sym z) refl
+      found = rw (sym e ∙ h, drop-drop (length key) at t, sym w, same_place, sym z) refl
 
-      pub field-no-stop : not v.ok ≡ false → not s ≡ true → no_number ≡ field key stop (drop at t)
-      field-no-stop o q = sym (found ∙ rw (not-false v.ok o, not-true s q) refl)
+      pub field-no-stop : v.ok ≡ true → s ≡ false → no_number ≡ field key stop (drop at t)
+      field-no-stop o q = sym (found ∙ rw (o, q) refl)
 
-      pub field-good : not v.ok ≡ false → not s ≡ false
+      pub field-good : v.ok ≡ true → s ≡ true
           → record { ok = true; value = v.value; used = length key + v.used + length stop } ≡ field key stop (drop at t)
-      field-good o q = sym (found ∙ rw (not-false v.ok o, not-false s q) refl)
+      field-good o q = sym (found ∙ rw (o, q) refl)
 
 -- a number at a place, by what was found of its digits
 module _ (t : List ℕ) (at : ℕ) {d : Number} (e : d ≡ stated (run 9 (drop at t))) where
@@ -192,21 +192,21 @@ module _ (t : List ℕ) (at : ℕ) {a : Number} (ea : a ≡ field line_key comma
   pub first-within : at ≤ length t → at + a.used ≤ length t
   first-within p = omega (arith, length-drop at t, field_fits line_key comma (drop at t), ap (λ (n : Number). n.used) ea)
 
-  pub row-no-first : not a.ok ≡ true → no_row ≡ row (drop at t)
+  pub row-no-first : a.ok ≡ false → no_row ≡ row (drop at t)
   unfolding row row_first
-  row-no-first h = rw (sym ea, not-true a.ok h) refl
+  row-no-first h = rw (sym ea, h) refl
 
-  module _ (ha : not a.ok ≡ false) {b : Number} (eb : b ≡ field [] comma (drop (at + a.used) t)) where
+  module _ (ha : a.ok ≡ true) {b : Number} (eb : b ≡ field [] comma (drop (at + a.used) t)) where
     pub second-within : at ≤ length t → at + a.used + b.used ≤ length t
     second-within p =
         omega
         (arith, first-within p, length-drop (at + a.used) t, field_fits [] comma (drop (at + a.used) t), ap (λ (n : Number). n.used) eb)
 
-    pub row-no-second : not b.ok ≡ true → no_row ≡ row (drop at t)
+    pub row-no-second : b.ok ≡ false → no_row ≡ row (drop at t)
     unfolding row row_first row_second
-    row-no-second h = rw (sym ea, not-false a.ok ha, drop-drop a.used at t, sym eb, not-true b.ok h) refl
+    row-no-second h = rw (sym ea, ha, drop-drop a.used at t, sym eb, h) refl
 
-    module _ (hb : not b.ok ≡ false) {s : Number} (es : s ≡ field [] newline (drop (at + a.used + b.used) t)) where
+    module _ (hb : b.ok ≡ true) {s : Number} (es : s ≡ field [] newline (drop (at + a.used + b.used) t)) where
       pub third-within : at ≤ length t → at + a.used + b.used + s.used ≤ length t
       third-within p =
           omega (
@@ -222,16 +222,16 @@ module _ (t : List ℕ) (at : ℕ) {a : Number} (ea : a ≡ field line_key comma
 
       row_is : row (drop at t) ≡ row_of a b s
       unfolding row row_first row_second
-      row_is = rw (sym ea, not-false a.ok ha, drop-drop a.used at t, sym eb, not-false b.ok hb, place, sym es) refl
+      row_is = rw (sym ea, ha, drop-drop a.used at t, sym eb, hb, place, sym es) refl
 
-      pub row-no-third : not s.ok ≡ true → no_row ≡ row (drop at t)
+      pub row-no-third : s.ok ≡ false → no_row ≡ row (drop at t)
       unfolding row_of
-      row-no-third h = sym (row_is ∙ rw (not-true s.ok h) refl)
+      row-no-third h = sym (row_is ∙ rw h refl)
 
-      pub row-good : not s.ok ≡ false
+      pub row-good : s.ok ≡ true
           → record { ok = true; first = a.value; second = b.value; signals = s.value; used = a.used + b.used + s.used } ≡ row (drop at t)
       unfolding row_of
-      row-good h = sym (row_is ∙ rw (not-false s.ok h) refl)
+      row-good h = sym (row_is ∙ rw h refl)
 
 pub row_fits : (l : List ℕ) → (row l).used ≤ length l
 unfolding row row_first row_second row_of

@@ -5,11 +5,11 @@ use Prim.Native.Nat.{ℕ, zero, suc, ◌+◌, ◌-◌, ◌≤◌, ◌<◌, zero-
 use native.Mathlib.Nat.{add_assoc, add-zero, zero-add}
 use native.Mathlib.Omega.{arith}
 use mathlib.Core.Path.{◌≡◌, refl, sym, ap, ◌∙◌}
-use mathlib.Core.Bool.{Bool, true, false, not}
+use mathlib.Core.Bool.{Bool, true, false}
 use mathlib.Core.List.{List}
 use lib.ListN.{length, drop, length-drop}
 use lib.Seq.{drop-drop}
-use borrow.Author.Tests.{eq-eqb, ne_eqb, not-true, not-false}
+use borrow.Author.Tests.{eq-eqb, ne_eqb}
 use Rattle.text.specs.declared.Number.{Number}
 use Rattle.text.specs.declared.Row.{Row}
 use Rattle.text.specs.declared.Passed.{Passed}
@@ -53,36 +53,36 @@ module _ {t : List ℕ} {at m rows used : ℕ} (p : Passing t at m rows used) wh
     passing-fits = omega (arith, p.within, row_fits (drop (at + used) t), length-drop (at + used) t, ap (λ (x : Row). x.used) e)
 
     -- the next row is not as expected
-    pub passing-stop : not r.ok ≡ true → record { rows = rows; used = used } ≡ passed m (drop at t)
+    pub passing-stop : r.ok ≡ false → record { rows = rows; used = used } ≡ passed m (drop at t)
     unfolding good_rows used_rows
     passing-stop h =
-        let a : rows ≡ good_rows m (drop at t) = sym (p.good ∙ rw (next, sym e, not-true r.ok h, add-zero) refl) in
-        let b : used ≡ used_rows m (drop at t) = sym (p.bytes ∙ rw (next, sym e, not-true r.ok h, add-zero) refl) in
+        let a : rows ≡ good_rows m (drop at t) = sym (p.good ∙ rw (next, sym e, h, add-zero) refl) in
+        let b : used ≡ used_rows m (drop at t) = sym (p.bytes ∙ rw (next, sym e, h, add-zero) refl) in
         λ i. record { rows = a i; used = b i }
 
-    pub passing-more : not r.ok ≡ false → Passing t at m (rows + 1) (used + r.used)
+    pub passing-more : r.ok ≡ true → Passing t at m (rows + 1) (used + r.used)
     unfolding good_rows used_rows
     passing-more h =
         record {
           most = omega arith;
           within = omega (arith, passing-fits);
-          good = p.good ∙ rw (next, sym e, not-false r.ok h, drop-drop r.used (at + used) t, add_assoc at used r.used) (omega arith);
-          bytes = p.bytes ∙ rw (next, sym e, not-false r.ok h, drop-drop r.used (at + used) t, add_assoc at used r.used) (omega arith);
+          good = p.good ∙ rw (next, sym e, h, drop-drop r.used (at + used) t, add_assoc at used r.used) (omega arith);
+          bytes = p.bytes ∙ rw (next, sym e, h, drop-drop r.used (at + used) t, add_assoc at used r.used) (omega arith);
         }
 
 -- the end of a text at a place: g whether end=plant is there
 module _ (t : List ℕ) (at k : ℕ) {g : Bool} (e : g ≡ begins end_line (drop at t)) where
-  pub end_none : not g ≡ true → k ≡ end_fault_of (drop at t) k
+  pub end_none : g ≡ false → k ≡ end_fault_of (drop at t) k
   unfolding end_fault_of
-  end_none h = rw (sym e ∙ not-true g h) refl
+  end_none h = rw (sym e ∙ h) refl
 
-  pub end-all : not g ≡ false → length t - at ≡ 10 → 0 ≡ end_fault_of (drop at t) k
+  pub end-all : g ≡ true → length t - at ≡ 10 → 0 ≡ end_fault_of (drop at t) k
   unfolding end_fault_of
-  end-all h q = rw (sym e ∙ not-false g h, length-drop at t, q) refl
+  end-all h q = rw (sym e ∙ h, length-drop at t, q) refl
 
-  pub end_more : not g ≡ false → (length t - at ≡ 10 → ⊥) → k + 1 ≡ end_fault_of (drop at t) k
+  pub end_more : g ≡ true → (length t - at ≡ 10 → ⊥) → k + 1 ≡ end_fault_of (drop at t) k
   unfolding end_fault_of
-  end_more h q = rw (sym e ∙ not-false g h, length-drop at t, ne_eqb (length t - at) 10 q) refl
+  end_more h q = rw (sym e ∙ h, length-drop at t, ne_eqb (length t - at) 10 q) refl
 
 pub rows-most : (m : ℕ) (l : List ℕ) → good_rows m l ≤ m
 unfolding good_rows
@@ -136,23 +136,23 @@ module _ (text : List ℕ) (at k : ℕ) where
 
 -- the form of a text, by its first three text lines: g whether plant=1 is there, n and m the two fields, line what the rest says
 module _ (t : List ℕ) {g : Bool} (e : g ≡ begins plant_line t) where
-  pub form-no-plant : not g ≡ true → wrong_line_of 1 ≡ form t
+  pub form-no-plant : g ≡ false → wrong_line_of 1 ≡ form t
   unfolding form
-  form-no-plant h = rw (sym e ∙ not-true g h) refl
+  form-no-plant h = rw (sym e ∙ h) refl
 
-  pub plant-within : not g ≡ false → 8 ≤ length t
-  plant-within h = begins-fits plant_line t (sym e ∙ not-false g h)
+  pub plant-within : g ≡ true → 8 ≤ length t
+  plant-within h = begins-fits plant_line t (sym e ∙ h)
 
-  module _ (h : not g ≡ false) {n : Number} (d : n ≡ field devices_key newline (drop 8 t)) where
+  module _ (h : g ≡ true) {n : Number} (d : n ≡ field devices_key newline (drop 8 t)) where
     pub devices-within : 8 + n.used ≤ length t
     devices-within = omega (arith, plant-within h, length-drop 8 t, field_fits devices_key newline (drop 8 t), ap (λ (v : Number). v.used) d)
 
     -- x being what the definition says where no field stands: `PlaceLaws` shows which text line that has to be
-    pub form-no-devices : {x : Form} → not n.ok ≡ true → x ≡ form_devices t no_number → x ≡ form t
+    pub form-no-devices : {x : Form} → n.ok ≡ false → x ≡ form_devices t no_number → x ≡ form t
     unfolding form form_devices
-    form-no-devices o z = z ∙ sym (rw (sym e ∙ not-false g h, sym d, not-true n.ok o) refl)
+    form-no-devices o z = z ∙ sym (rw (sym e ∙ h, sym d, o) refl)
 
-    module _ (o : not n.ok ≡ false) {m : Number} (f : m ≡ field lines_key newline (drop (8 + n.used) t)) where
+    module _ (o : n.ok ≡ true) {m : Number} (f : m ≡ field lines_key newline (drop (8 + n.used) t)) where
       pub lines-within : 8 + n.used + m.used ≤ length t
       lines-within =
           omega (
@@ -166,14 +166,14 @@ module _ (t : List ℕ) {g : Bool} (e : g ≡ begins plant_line t) where
       pub lines-small : m.value < 1000000000
       lines-small = omega (arith, field-small lines_key newline (drop (8 + n.used) t), ap (λ (v : Number). v.value) f)
 
-      pub form-no-lines : {x : Form} → not m.ok ≡ true → x ≡ form_lines t n.value (8 + n.used) no_number → x ≡ form t
+      pub form-no-lines : {x : Form} → m.ok ≡ false → x ≡ form_lines t n.value (8 + n.used) no_number → x ≡ form t
       unfolding form form_devices form_lines
-      form-no-lines q z = z ∙ sym (rw (sym e ∙ not-false g h, sym d, not-false n.ok o, sym f, not-true m.ok q) refl)
+      form-no-lines q z = z ∙ sym (rw (sym e ∙ h, sym d, o, sym f, q) refl)
 
-      pub form-good : {line : ℕ} → not m.ok ≡ false → line ≡ rows_fault_of m.value (drop (8 + n.used + m.used) t)
+      pub form-good : {line : ℕ} → m.ok ≡ true → line ≡ rows_fault_of m.value (drop (8 + n.used + m.used) t)
           → record { line = line; devices = n.value; lines = m.value; at = 8 + n.used + m.used } ≡ form t
       unfolding form form_devices form_lines
-      form-good q z = rw (sym e ∙ not-false g h, sym d, not-false n.ok o, sym f, not-false m.ok q, z) refl
+      form-good q z = rw (sym e ∙ h, sym d, o, sym f, q, z) refl
 
 pub form-within : (t : List ℕ) → (form t).at ≤ length t
 unfolding form form_devices form_lines
@@ -185,7 +185,7 @@ form-within t =
     by_cond
     within
     n.ok
-    (λ o. by_cond within m.ok (λ q. lines-within t {g = true} (sym e) refl {n = n} refl (ap not o) {m = m} refl) (λ q. zero-le))
+    (λ o. by_cond within m.ok (λ q. lines-within t {g = true} (sym e) refl {n = n} refl o {m = m} refl) (λ q. zero-le))
     (λ o. zero-le))
     (λ e. zero-le)
   where

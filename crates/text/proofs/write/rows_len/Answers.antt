@@ -1,0 +1,15 @@
+-- `text::write::rows_len` meets its contract: each turn of the loop counts the bytes of the row of line i.
+-- Assumes nothing.
+use native.Mathlib.Omega.{arith}
+use Rattle.text.proofs.Wrote.{sum-all, sum_more}
+use Rattle.text.proofs.write.rows_len.Goals as goal
+
+pub loop-i-preserved : goal.loop-i-preserved
+loop-i-preserved c =
+    sum_more c.args.firsts.now c.args.seconds.now c.args.signals.now c.requires.lists.0 c.requires.lists.1 c.loop-i.invariant c.loop-i-test.true c.row_len-sum.ensures
+
+pub returns : goal.returns
+returns c = (
+  sum-all c.args.firsts.now c.args.seconds.now c.args.signals.now c.requires.lists.0 c.requires.lists.1 c.loop-i.invariant c.loop-i-test.false,
+  omega (arith, c.loop-i.invariant, c.requires.few),
+)
