@@ -1,7 +1,5 @@
 -- `grouping::between::owners_between` meets its contract: the network that is made stands for the plant, its least sets are the communities, and each device gets the owner of its node.
 -- Assumes nothing.
-use native.Mathlib.Omega.{arith}
-use borrow.Author.Rules.{rules}
 use Rattle.rules.specs.Plant.{plant_of}
 use Rattle.rules.proofs.RangeLaws.{range-in}
 use Rattle.grouping.proofs.BetweenLaws.{between-swept}

@@ -1,9 +1,7 @@
 -- `grouping::hierarchy::fill_hierarchy` meets its contract: the two ends, and the search between them. Assumes nothing.
 use native.Mathlib.Numerals.{add-one}
-use native.Mathlib.Omega.{arith}
-use borrow.Author.Rules.{rules}
 use Rattle.rules.proofs.RangeLaws.{least-accepted, largest-accepted}
-use Rattle.grouping.proofs.HierarchyCalls.{two_ends, ready-first, listed-sole, listed-all}
+use Rattle.grouping.proofs.HierarchyCalls.{ready-first, listed-sole, listed-all}
 use Rattle.grouping.proofs.hierarchy.fill_hierarchy.Goals as goal
 
 pub level_at-finest-requires : goal.level_at-finest-requires

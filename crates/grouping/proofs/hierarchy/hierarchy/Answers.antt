@@ -1,8 +1,7 @@
 -- `grouping::hierarchy::hierarchy` meets its contract: the check of the plant, 12, and then what `fill_hierarchy` fills in. Assumes nothing.
 use mathlib.Core.Path.{sym, ◌∙◌}
-use borrow.Author.Rules.{rules}
 use Rattle.rules.proofs.RefusalLaws.{plant-accepted}
-use Rattle.grouping.proofs.HierarchyCalls.{call-plant-refused, call-short, call-rooms, call-filled}
+use Rattle.grouping.proofs.HierarchyCalls.{call-plant-refused, call-short, call-filled}
 use Rattle.grouping.proofs.hierarchy.hierarchy.Goals as goal
 
 pub returns-then-plant-ne0 : goal.returns-then-plant-ne0

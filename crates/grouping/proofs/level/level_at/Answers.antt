@@ -1,5 +1,4 @@
 -- `grouping::level::level_at` meets its contract: every device is gone through. Assumes nothing.
-use borrow.Author.Rules.{rules}
 use Rattle.grouping.proofs.FaultLaws.{cleared}
 use Rattle.grouping.proofs.CallLaws.{all-swept, found-devices, found-level}
 use Rattle.grouping.proofs.level.level_at.Goals as goal

@@ -1,5 +1,4 @@
 -- `grouping::level::level_between` meets its contract: the owners of the finer level are enough to search. Assumes nothing.
-use borrow.Author.Rules.{rules}
 use Rattle.grouping.proofs.FaultLaws.{cleared}
 use Rattle.grouping.proofs.CallLaws.{found-devices, found-level}
 use Rattle.grouping.proofs.level.level_between.Goals as goal
