@@ -3,7 +3,7 @@
 use Prim.Native.Nat.{ℕ}
 use mathlib.Core.Path.{◌≡◌, refl}
 use mathlib.Core.List.{List, [], ◌∷◌, map}
-use Rattle.rules.specs.Refusals.{done, cause, or_else, first_of, devices_fault, lists_fault, rises, line_fault, lines_from, lines_fault, after_plant, fixed_order, in_order, nothing, about, plant_says}
+use Rattle.rules.specs.Refusals.{done, cause, or_else, first_of, devices_fault, lists_fault, rises, line_fault, lines_from, lines_fault, after_plant, fixed_order, in_order, nothing, about}
 use Rattle.text.specs.Numbers.{is_digit, run, value_of, well_formed, number_from, number_of, decimal, digits}
 use Rattle.text.specs.Lines.{begins, field_text, field_rest, field, row_text, row_of, row_second, row_first, row}
 use Rattle.text.specs.Form.{rows_text, plant_text, good_rows, used_rows, column, end_fault_of, rows_fault_of, form_lines, form_devices, form}

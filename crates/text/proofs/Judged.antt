@@ -1,11 +1,11 @@
 -- The first fault of a text, in the fixed order, by what was found on the way; and what reading answers and fills then.
 -- Assumes nothing.
-use Prim.Native.Nat.{ℕ, zero, suc, ◌≤◌, ◌<◌}
+use Prim.Native.Nat.{ℕ, suc, ◌≤◌, ◌<◌}
 use native.Mathlib.Nat.{suc-ne-zero}
 use native.Mathlib.Omega.{arith}
 use mathlib.Core.Path.{◌≡◌, refl, sym, ap, subst, ◌∙◌}
-use mathlib.Core.Bool.{Bool, true, false, not, ◌||◌, cond, true≢false}
-use mathlib.Core.List.{List, ◌++◌}
+use mathlib.Core.Bool.{Bool, true, false, not, ◌||◌, true≢false}
+use mathlib.Core.List.{List}
 use lib.Dec.{ltb, eqb}
 use lib.ListN.{length, take, drop, length-take}
 use borrow.Author.Tests.{eq-eqb, ne_eqb, lt-ltb, le-ltb, ltb-false, eqb-true, not-false}
@@ -16,8 +16,7 @@ use Rattle.rules.proofs.RefusalLaws.{or_else-assoc, done_next, Clean, clean-caus
 use Rattle.text.specs.declared.Row.{Row}
 use Rattle.text.specs.declared.Form.{Form}
 use Rattle.text.specs.declared.Reading.{Reading}
-use Rattle.text.specs.Lines.{row}
-use Rattle.text.specs.Form.{form, column}
+use Rattle.text.specs.Form.{form}
 use Rattle.text.specs.Reading.{long_fault, form_fault_of, values_of, firsts_of, seconds_of, signals_of, no_room_of, rooms_fault, read_fault, read_answer, refused_with, read_list, ReadIs, size_fault_of, head_fault_of}
 use Rattle.text.proofs.Lists.{column-length}
 
