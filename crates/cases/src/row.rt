@@ -35,7 +35,7 @@ pub fn find(text: &[u8], from: usize, byte: u8) -> usize
 
 // What stands in a text from a place and some bytes more on.
 pub fn rest(text: &[u8], from: usize, more: usize) -> &[u8] {
-    let start = std::num::wrapping_add_usize(from, more);
+    let start = from.wrapping_add(more);
     if start < text.len() {
         return &text[start..];
     }
@@ -148,7 +148,7 @@ fn column(list: &[usize; 64], from: usize, entries: &mut [usize]) {
     let mut i = 0;
     while i < entries.len() {
         entries[i] = entry(list, at);
-        at = std::num::wrapping_add_usize(at, 3);
+        at = at.wrapping_add(3);
         i += 1;
     }
 }
@@ -162,12 +162,12 @@ pub fn plant(
     seconds: &mut [usize],
     signals: &mut [usize],
 ) -> Size {
-    column(list, std::num::wrapping_add_usize(from, 1), firsts);
-    column(list, std::num::wrapping_add_usize(from, 2), seconds);
-    column(list, std::num::wrapping_add_usize(from, 3), signals);
+    column(list, from.wrapping_add(1), firsts);
+    column(list, from.wrapping_add(2), seconds);
+    column(list, from.wrapping_add(3), signals);
     Size {
         n: entry(list, from),
-        lines: std::num::wrapping_sub_usize(count, from) / 3,
+        lines: count.wrapping_sub(from) / 3,
     }
 }
 
