@@ -103,12 +103,10 @@ fn counts(of_level: bool, place: usize, entry: usize) -> bool {
 // How many entries of a list count.
 fn number_of(of_level: bool, list: &[usize]) -> usize {
     let mut sum = 0usize;
-    let mut i = 0;
-    while i < list.len() {
-        if counts(of_level, i, list[i]) {
+    for (i, x) in list.iter().enumerate() {
+        if counts(of_level, i, *x) {
             sum = sum.wrapping_add(1);
         }
-        i += 1;
     }
     sum
 }

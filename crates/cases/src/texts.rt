@@ -27,10 +27,8 @@ fn put(bytes: &mut [u8], i: usize, byte: u8) {
 
 // Puts what a row stands for into bytes, from a place on.
 pub fn spell(case: &[u8], bytes: &mut [u8], from: usize) {
-    let mut i = 0;
-    while i < case.len() {
-        put(bytes, from.wrapping_add(i), meant(case[i]));
-        i += 1;
+    for (i, x) in case.iter().enumerate() {
+        put(bytes, from.wrapping_add(i), meant(*x));
     }
 }
 
