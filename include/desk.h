@@ -1,7 +1,7 @@
 /*
  * The groups of a plant at one rate, for the planning desk.
  *
- * Build the archive with `rt staticlib desk` and link target/staticlib/libdesk.a (x86-64 Linux). It needs no library but C's own memcpy
+ * Build the archive with `rt lib` in crates/desk and link crates/desk/out/libdesk.a (x86-64 Linux). It needs no library but C's own memcpy
  * and memset. examples/groups.c is a whole program over it.
  */
 #ifndef DESK_H

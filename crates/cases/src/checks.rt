@@ -2,9 +2,15 @@
 use crate::print::Line;
 use crate::{plants, print, row};
 use cut::check::check_plant;
+use std::alloc::AllocError;
 
 // A plant that is written out: n, and the lines.
-pub fn plant(list: &[usize; 64], count: usize, expected: &[u8]) -> Line {
+pub fn plant(
+    out: &mut Vec<u8>,
+    list: &[usize; 64],
+    count: usize,
+    expected: &[u8],
+) -> Result<Line, AllocError> {
     let mut firsts = [0; 16];
     let mut seconds = [0; 16];
     let mut signals = [0; 16];
@@ -15,7 +21,7 @@ pub fn plant(list: &[usize; 64], count: usize, expected: &[u8]) -> Line {
         row::part(&seconds, g.lines),
         row::part(&signals, g.lines),
     );
-    print::refusal(expected, r.number, r.place)
+    print::refusal(out, expected, r.number, r.place)
 }
 
 // Signals, 1 where nothing is said of them.
@@ -24,7 +30,7 @@ fn or_one(x: usize) -> usize {
 }
 
 // Three lists of any length, n devices, and the signals of line 1,023. The other lines that are there break no rule on 128 devices.
-pub fn lists(list: &[usize; 64], expected: &[u8]) -> Line {
+pub fn lists(out: &mut Vec<u8>, list: &[usize; 64], expected: &[u8]) -> Result<Line, AllocError> {
     let mut firsts = [0; 1025];
     let mut seconds = [0; 1025];
     let mut signals = [0; 1025];
@@ -36,5 +42,5 @@ pub fn lists(list: &[usize; 64], expected: &[u8]) -> Line {
         row::part(&seconds, row::entry(list, 1)),
         row::part(&signals, row::entry(list, 2)),
     );
-    print::refusal(expected, r.number, r.place)
+    print::refusal(out, expected, r.number, r.place)
 }

@@ -4,16 +4,23 @@ use crate::{plants, print, rates, row};
 use cut::community::{Answer, community};
 use cut::owners::owners;
 use rules::DEVICES;
+use std::alloc::AllocError;
 
 // What the call answers beside the marks.
-fn answered(r: Answer, expected: &[u8]) -> Line {
-    let line = print::refusal(expected, r.number, r.place);
-    let line = print::value(line, expected, b" size=", r.size);
-    print::value(line, expected, b" out=", r.out)
+fn answered(out: &mut Vec<u8>, r: Answer, expected: &[u8]) -> Result<Line, AllocError> {
+    let line = print::refusal(out, expected, r.number, r.place)?;
+    let line = print::value(out, line, expected, b" size=", r.size)?;
+    print::value(out, line, expected, b" out=", r.out)
 }
 
 // The community in lent marks, with the marks afterwards.
-fn marked(list: &[usize; 64], count: usize, expected: &[u8], marks: &mut [u8]) -> Line {
+fn marked(
+    out: &mut Vec<u8>,
+    list: &[usize; 64],
+    count: usize,
+    expected: &[u8],
+    marks: &mut [u8],
+) -> Result<Line, AllocError> {
     let mut firsts = [0; 16];
     let mut seconds = [0; 16];
     let mut signals = [0; 16];
@@ -27,19 +34,24 @@ fn marked(list: &[usize; 64], count: usize, expected: &[u8], marks: &mut [u8]) -
         row::entry(list, 0),
         marks,
     );
-    let line = answered(r, expected);
-    print::marks(line, expected, b" marks=", marks)
+    let line = answered(out, r, expected)?;
+    print::marks(out, line, expected, b" marks=", marks)
 }
 
 // The device, the rate, the room in the marks, which all are 7 before, and a plant that is written out.
-pub fn plant(list: &[usize; 64], count: usize, expected: &[u8]) -> Line {
+pub fn plant(
+    out: &mut Vec<u8>,
+    list: &[usize; 64],
+    count: usize,
+    expected: &[u8],
+) -> Result<Line, AllocError> {
     let mut marks = [7u8; 16];
     let room = row::at_most(row::entry(list, 3), 16);
-    marked(list, count, expected, &mut marks[..room])
+    marked(out, list, count, expected, &mut marks[..room])
 }
 
 // The device, the rate, and a plant made by a rule: reach, devices, the lengths of the three lists, the signals of each line.
-pub fn made(list: &[usize; 64], expected: &[u8]) -> Line {
+pub fn made(out: &mut Vec<u8>, list: &[usize; 64], expected: &[u8]) -> Result<Line, AllocError> {
     let mut firsts = [0; 1025];
     let mut seconds = [0; 1025];
     let mut signals = [0; 1025];
@@ -63,12 +75,17 @@ pub fn made(list: &[usize; 64], expected: &[u8]) -> Line {
         row::entry(list, 0),
         &mut marks,
     );
-    let line = answered(r, expected);
-    print::marks(line, expected, b" marks=", &marks)
+    let line = answered(out, r, expected)?;
+    print::marks(out, line, expected, b" marks=", &marks)
 }
 
 // The rate, and a plant that is written out. The owners are 7 before.
-pub fn owned(list: &[usize; 64], count: usize, expected: &[u8]) -> Line {
+pub fn owned(
+    out: &mut Vec<u8>,
+    list: &[usize; 64],
+    count: usize,
+    expected: &[u8],
+) -> Result<Line, AllocError> {
     let mut firsts = [0; 16];
     let mut seconds = [0; 16];
     let mut signals = [0; 16];
@@ -82,6 +99,6 @@ pub fn owned(list: &[usize; 64], count: usize, expected: &[u8]) -> Line {
         rates::rate_at(list, 0),
         &mut owner,
     );
-    let line = print::refusal(expected, r.number, r.place);
-    print::list(line, expected, b" owners=", &owner)
+    let line = print::refusal(out, expected, r.number, r.place)?;
+    print::list(out, line, expected, b" owners=", &owner)
 }

@@ -3,15 +3,22 @@ use crate::print::Line;
 use crate::{plants, print, rates, row};
 use grouping::grouping::{Grouping, groups_at};
 use rules::DEVICES;
+use std::alloc::AllocError;
 
 // What the call answers beside the labels.
-fn answered(r: Grouping, expected: &[u8]) -> Line {
-    let line = print::refusal(expected, r.number, r.place);
-    print::value(line, expected, b" groups=", r.groups)
+fn answered(out: &mut Vec<u8>, r: Grouping, expected: &[u8]) -> Result<Line, AllocError> {
+    let line = print::refusal(out, expected, r.number, r.place)?;
+    print::value(out, line, expected, b" groups=", r.groups)
 }
 
 // The groups in lent labels, with the labels afterwards.
-fn labelled(list: &[usize; 64], count: usize, expected: &[u8], labels: &mut [usize]) -> Line {
+fn labelled(
+    out: &mut Vec<u8>,
+    list: &[usize; 64],
+    count: usize,
+    expected: &[u8],
+    labels: &mut [usize],
+) -> Result<Line, AllocError> {
     let mut firsts = [0; 16];
     let mut seconds = [0; 16];
     let mut signals = [0; 16];
@@ -24,19 +31,24 @@ fn labelled(list: &[usize; 64], count: usize, expected: &[u8], labels: &mut [usi
         rates::rate_at(list, 0),
         labels,
     );
-    let line = answered(r, expected);
-    print::list(line, expected, b" labels=", labels)
+    let line = answered(out, r, expected)?;
+    print::list(out, line, expected, b" labels=", labels)
 }
 
 // The rate, the room in the labels, which all are 77 before, and a plant that is written out.
-pub fn plant(list: &[usize; 64], count: usize, expected: &[u8]) -> Line {
+pub fn plant(
+    out: &mut Vec<u8>,
+    list: &[usize; 64],
+    count: usize,
+    expected: &[u8],
+) -> Result<Line, AllocError> {
     let mut labels = [77; 16];
     let room = row::at_most(row::entry(list, 2), 16);
-    labelled(list, count, expected, &mut labels[..room])
+    labelled(out, list, count, expected, &mut labels[..room])
 }
 
 // The rate, and a plant made by a rule: reach, devices, the lengths of the three lists, the signals of each line.
-pub fn made(list: &[usize; 64], expected: &[u8]) -> Line {
+pub fn made(out: &mut Vec<u8>, list: &[usize; 64], expected: &[u8]) -> Result<Line, AllocError> {
     let mut firsts = [0; 1025];
     let mut seconds = [0; 1025];
     let mut signals = [0; 1025];
@@ -59,6 +71,6 @@ pub fn made(list: &[usize; 64], expected: &[u8]) -> Line {
         rates::rate_at(list, 0),
         &mut labels,
     );
-    let line = answered(r, expected);
-    print::list(line, expected, b" labels=", row::part(&labels, n))
+    let line = answered(out, r, expected)?;
+    print::list(out, line, expected, b" labels=", row::part(&labels, n))
 }

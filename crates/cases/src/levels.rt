@@ -5,6 +5,7 @@ use grouping::hierarchy::{Levels, hierarchy};
 use grouping::joining::{Joining, joining_rate};
 use grouping::row::check_row;
 use rules::{DEVICES, LINES};
+use std::alloc::AllocError;
 use text::read::read_plant;
 
 // An entry before the call, where it is not printed: more than any number that is filled in.
@@ -34,33 +35,46 @@ fn called(
 }
 
 // What the call answers beside the lists.
-fn counted(r: Levels, expected: &[u8]) -> Line {
-    let line = print::refusal(expected, r.number, r.place);
-    print::value(line, expected, b" levels=", r.levels)
+fn counted(out: &mut Vec<u8>, r: Levels, expected: &[u8]) -> Result<Line, AllocError> {
+    let line = print::refusal(out, expected, r.number, r.place)?;
+    print::value(out, line, expected, b" levels=", r.levels)
 }
 
 // The two lists of low rates.
-fn lows(line: Line, expected: &[u8], low_p: &[usize], low_q: &[usize]) -> Line {
-    let line = print::list(line, expected, b" low_p=", low_p);
-    print::list(line, expected, b" low_q=", low_q)
+fn lows(
+    out: &mut Vec<u8>,
+    line: Line,
+    expected: &[u8],
+    low_p: &[usize],
+    low_q: &[usize],
+) -> Result<Line, AllocError> {
+    let line = print::list(out, line, expected, b" low_p=", low_p)?;
+    print::list(out, line, expected, b" low_q=", low_q)
 }
 
 // What the call answers, with the lists afterwards.
 fn listed(
+    out: &mut Vec<u8>,
     list: &[usize; 64],
     count: usize,
     expected: &[u8],
     labels: &mut [usize],
     low_p: &mut [usize],
     low_q: &mut [usize],
-) -> Line {
-    let line = counted(called(list, count, labels, low_p, low_q), expected);
-    let line = print::list(line, expected, b" labels=", labels);
-    lows(line, expected, low_p, low_q)
+) -> Result<Line, AllocError> {
+    let r = called(list, count, labels, low_p, low_q);
+    let line = counted(out, r, expected)?;
+    let line = print::list(out, line, expected, b" labels=", labels)?;
+    lows(out, line, expected, low_p, low_q)
 }
 
 // The room in the labels and in the two lists of low rates, which all are 77 before, and a plant that is written out.
-pub fn plant(list: &[usize; 64], count: usize, expected: &[u8]) -> Line {
+pub fn plant(
+    out: &mut Vec<u8>,
+    list: &[usize; 64],
+    count: usize,
+    expected: &[u8],
+) -> Result<Line, AllocError> {
     let mut labels = [77; 64];
     let mut low_p = [77; 16];
     let mut low_q = [77; 16];
@@ -68,6 +82,7 @@ pub fn plant(list: &[usize; 64], count: usize, expected: &[u8]) -> Line {
     let b = row::at_most(row::entry(list, 1), 16);
     let c = row::at_most(row::entry(list, 2), 16);
     listed(
+        out,
         list,
         count,
         expected,
@@ -87,38 +102,49 @@ fn counts(of_level: bool, place: usize, entry: usize) -> bool {
 
 // How many entries of a list count.
 fn number_of(of_level: bool, list: &[usize]) -> usize {
-    let mut sum = 0;
-    let mut i = 0;
-    while i < list.len() {
-        if counts(of_level, i, list[i]) {
-            sum = std::num::wrapping_add_usize(sum, 1);
+    let mut sum = 0usize;
+    for (i, x) in list.iter().enumerate() {
+        if counts(of_level, i, *x) {
+            sum = sum.wrapping_add(1);
         }
-        i += 1;
     }
     sum
 }
 
 // The number of groups of each level.
-fn sizes(line: Line, expected: &[u8], labels: &[usize], n: usize, levels: usize) -> Line {
-    let mut line = print::say(line, expected, b" groups=");
-    let mut k = 0;
-    while k < levels {
+fn sizes(
+    out: &mut Vec<u8>,
+    line: Line,
+    expected: &[u8],
+    labels: &[usize],
+    n: usize,
+    levels: usize,
+) -> Result<Line, AllocError> {
+    let mut line = print::say(out, line, expected, b" groups=")?;
+    for k in 0..levels {
         let level = grouping::row::row(labels, n, levels, k);
-        line = print::entry(line, expected, k, number_of(true, level));
-        k += 1;
+        line = print::entry(out, line, expected, k, number_of(true, level))?;
     }
-    line
+    Ok(line)
 }
 
 // How many entries of each list are filled.
-fn filled(line: Line, expected: &[u8], labels: &[usize], low_p: &[usize], low_q: &[usize]) -> Line {
-    let line = print::value(line, expected, b" filled=", number_of(false, labels));
-    let line = print::value(line, expected, b",", number_of(false, low_p));
-    print::value(line, expected, b",", number_of(false, low_q))
+fn filled(
+    out: &mut Vec<u8>,
+    line: Line,
+    expected: &[u8],
+    labels: &[usize],
+    low_p: &[usize],
+    low_q: &[usize],
+) -> Result<Line, AllocError> {
+    let line = print::value(out, line, expected, b" filled=", number_of(false, labels))?;
+    let line = print::value(out, line, expected, b",", number_of(false, low_p))?;
+    print::value(out, line, expected, b",", number_of(false, low_q))
 }
 
 // The groups and the low rates of all levels, and the row of level k.
 fn told_of(
+    out: &mut Vec<u8>,
     r: Levels,
     expected: &[u8],
     n: usize,
@@ -126,24 +152,26 @@ fn told_of(
     labels: &[usize],
     low_p: &[usize],
     low_q: &[usize],
-) -> Line {
-    let line = sizes(counted(r, expected), expected, labels, n, r.levels);
+) -> Result<Line, AllocError> {
+    let line = counted(out, r, expected)?;
+    let line = sizes(out, line, expected, labels, n, r.levels)?;
     let before_last = plants::below(r.levels);
     let low_p = row::part(low_p, before_last);
-    let line = lows(line, expected, low_p, row::part(low_q, before_last));
+    let line = lows(out, line, expected, low_p, row::part(low_q, before_last))?;
     let level = grouping::row::row(labels, n, r.levels, k);
-    print::list(line, expected, b" row=", level)
+    print::list(out, line, expected, b" row=", level)
 }
 
 // The hierarchy of any plant: its levels in short, the row of level k, and how much is filled.
 fn whole(
+    out: &mut Vec<u8>,
     n: usize,
     firsts: &[usize],
     seconds: &[usize],
     signals: &[usize],
     k: usize,
     expected: &[u8],
-) -> Line {
+) -> Result<Line, AllocError> {
     // n × n labels of at most 128 devices
     let mut labels = [BLANK; 16384];
     let mut low_p = [BLANK; DEVICES];
@@ -157,12 +185,12 @@ fn whole(
         &mut low_p,
         &mut low_q,
     );
-    let line = told_of(r, expected, n, k, &labels, &low_p, &low_q);
-    filled(line, expected, &labels, &low_p, &low_q)
+    let line = told_of(out, r, expected, n, k, &labels, &low_p, &low_q)?;
+    filled(out, line, expected, &labels, &low_p, &low_q)
 }
 
 // The level whose row is shown, and a plant made by a rule: reach, devices, the lengths of the three lists, the signals of the first line, and by how many they fall.
-pub fn made(list: &[usize; 64], expected: &[u8]) -> Line {
+pub fn made(out: &mut Vec<u8>, list: &[usize; 64], expected: &[u8]) -> Result<Line, AllocError> {
     let mut firsts = [0; 1025];
     let mut seconds = [0; 1025];
     let mut signals = [0; 1025];
@@ -177,6 +205,7 @@ pub fn made(list: &[usize; 64], expected: &[u8]) -> Line {
         &mut signals,
     );
     whole(
+        out,
         n,
         row::part(&firsts, row::entry(list, 3)),
         row::part(&seconds, row::entry(list, 4)),
@@ -187,7 +216,12 @@ pub fn made(list: &[usize; 64], expected: &[u8]) -> Line {
 }
 
 // The level whose row is shown, and a plant text, in which | stands for a newline.
-pub fn told(case: &[u8], list: &[usize; 64], expected: &[u8]) -> Line {
+pub fn told(
+    out: &mut Vec<u8>,
+    case: &[u8],
+    list: &[usize; 64],
+    expected: &[u8],
+) -> Result<Line, AllocError> {
     let text = row::rest(case, row::find(case, 0, b'p'), 0);
     let mut bytes = [0; 4096];
     texts::spell(text, &mut bytes, 0);
@@ -201,9 +235,10 @@ pub fn told(case: &[u8], list: &[usize; 64], expected: &[u8]) -> Line {
         &mut signals,
     );
     if r.number != 0 {
-        return print::refusal(expected, r.number, r.place);
+        return print::refusal(out, expected, r.number, r.place);
     }
     whole(
+        out,
         r.devices,
         row::part(&firsts, r.lines),
         row::part(&seconds, r.lines),
@@ -214,27 +249,37 @@ pub fn told(case: &[u8], list: &[usize; 64], expected: &[u8]) -> Line {
 }
 
 // The level, the level count, n, and the labels: what the companion answers, and the row.
-pub fn shown(list: &[usize; 64], count: usize, expected: &[u8]) -> Line {
+pub fn shown(
+    out: &mut Vec<u8>,
+    list: &[usize; 64],
+    count: usize,
+    expected: &[u8],
+) -> Result<Line, AllocError> {
     let numbers = &list[..];
-    let labels = row::part(&numbers[3..], std::num::wrapping_sub_usize(count, 3));
+    let labels = row::part(&numbers[3..], count.wrapping_sub(3));
     let n = row::entry(list, 2);
     let levels = row::entry(list, 1);
     let k = row::entry(list, 0);
     let r = check_row(labels, n, levels, k);
-    let line = print::refusal(expected, r.number, r.place);
+    let line = print::refusal(out, expected, r.number, r.place)?;
     let level = grouping::row::row(labels, n, levels, k);
-    print::list(line, expected, b" row=", level)
+    print::list(out, line, expected, b" row=", level)
 }
 
 // What the joining rate's call answers.
-fn answered(r: Joining, expected: &[u8]) -> Line {
-    let line = print::refusal(expected, r.number, r.place);
-    let line = print::value(line, expected, b" rate=", r.p);
-    print::value(line, expected, b"/", r.q)
+fn answered(out: &mut Vec<u8>, r: Joining, expected: &[u8]) -> Result<Line, AllocError> {
+    let line = print::refusal(out, expected, r.number, r.place)?;
+    let line = print::value(out, line, expected, b" rate=", r.p)?;
+    print::value(out, line, expected, b"/", r.q)
 }
 
 // The two devices, and a plant that is written out.
-pub fn joining(list: &[usize; 64], count: usize, expected: &[u8]) -> Line {
+pub fn joining(
+    out: &mut Vec<u8>,
+    list: &[usize; 64],
+    count: usize,
+    expected: &[u8],
+) -> Result<Line, AllocError> {
     let mut firsts = [0; 16];
     let mut seconds = [0; 16];
     let mut signals = [0; 16];
@@ -247,11 +292,15 @@ pub fn joining(list: &[usize; 64], count: usize, expected: &[u8]) -> Line {
         row::entry(list, 0),
         row::entry(list, 1),
     );
-    answered(r, expected)
+    answered(out, r, expected)
 }
 
 // The two devices, and a plant made by a rule, as for a hierarchy.
-pub fn joining_made(list: &[usize; 64], expected: &[u8]) -> Line {
+pub fn joining_made(
+    out: &mut Vec<u8>,
+    list: &[usize; 64],
+    expected: &[u8],
+) -> Result<Line, AllocError> {
     let mut firsts = [0; 1025];
     let mut seconds = [0; 1025];
     let mut signals = [0; 1025];
@@ -273,5 +322,5 @@ pub fn joining_made(list: &[usize; 64], expected: &[u8]) -> Line {
         row::entry(list, 0),
         row::entry(list, 1),
     );
-    answered(r, expected)
+    answered(out, r, expected)
 }

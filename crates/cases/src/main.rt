@@ -13,128 +13,157 @@ mod rates;
 mod row;
 mod texts;
 
-use libc::STDIN_FILENO;
 use print::{Line, Tally};
+use std::alloc::AllocError;
+use std::io;
+use std::io::{Read, Write};
 
 // The answer to a case on plant texts.
-fn text_answer(case: &[u8], list: &[usize; 64], count: usize, expected: &[u8]) -> Line {
+fn text_answer(
+    out: &mut Vec<u8>,
+    case: &[u8],
+    list: &[usize; 64],
+    count: usize,
+    expected: &[u8],
+) -> Result<Line, AllocError> {
     if row::starts(case, b"read") {
-        return texts::read(case, expected);
+        return texts::read(out, case, expected);
     }
     if row::starts(case, b"long") {
-        return texts::long(list, case, expected);
+        return texts::long(out, list, case, expected);
     }
     if row::starts(case, b"full") {
-        return texts::full(list, expected);
+        return texts::full(out, list, expected);
     }
     if row::starts(case, b"surplus") {
-        return texts::surplus(case, expected);
+        return texts::surplus(out, case, expected);
     }
     if row::starts(case, b"write") {
-        return texts::write(list, count, expected);
+        return texts::write(out, list, count, expected);
     }
-    print::unknown()
+    print::unknown(out)
 }
 
 // The answer to a case on levels and joining rates, or a later one.
-fn level_answer(case: &[u8], list: &[usize; 64], count: usize, expected: &[u8]) -> Line {
+fn level_answer(
+    out: &mut Vec<u8>,
+    case: &[u8],
+    list: &[usize; 64],
+    count: usize,
+    expected: &[u8],
+) -> Result<Line, AllocError> {
     if row::starts(case, b"hierarchy") {
-        return levels::plant(list, count, expected);
+        return levels::plant(out, list, count, expected);
     }
     if row::starts(case, b"large hierarchy") {
-        return levels::made(list, expected);
+        return levels::made(out, list, expected);
     }
     if row::starts(case, b"text hierarchy") {
-        return levels::told(case, list, expected);
+        return levels::told(out, case, list, expected);
     }
     if row::starts(case, b"row") {
-        return levels::shown(list, count, expected);
+        return levels::shown(out, list, count, expected);
     }
     if row::starts(case, b"joining") {
-        return levels::joining(list, count, expected);
+        return levels::joining(out, list, count, expected);
     }
     if row::starts(case, b"large joining") {
-        return levels::joining_made(list, expected);
+        return levels::joining_made(out, list, expected);
     }
-    text_answer(case, list, count, expected)
+    text_answer(out, case, list, count, expected)
 }
 
 // The answer to a case on groups, or a later one.
-fn group_answer(case: &[u8], list: &[usize; 64], count: usize, expected: &[u8]) -> Line {
+fn group_answer(
+    out: &mut Vec<u8>,
+    case: &[u8],
+    list: &[usize; 64],
+    count: usize,
+    expected: &[u8],
+) -> Result<Line, AllocError> {
     if row::starts(case, b"groups") {
-        return groups::plant(list, count, expected);
+        return groups::plant(out, list, count, expected);
     }
     if row::starts(case, b"large groups") {
-        return groups::made(list, expected);
+        return groups::made(out, list, expected);
     }
-    level_answer(case, list, count, expected)
+    level_answer(out, case, list, count, expected)
 }
 
 // The answer to a case on communities, or a later one.
-fn community_answer(case: &[u8], list: &[usize; 64], count: usize, expected: &[u8]) -> Line {
+fn community_answer(
+    out: &mut Vec<u8>,
+    case: &[u8],
+    list: &[usize; 64],
+    count: usize,
+    expected: &[u8],
+) -> Result<Line, AllocError> {
     if row::starts(case, b"community") {
-        return communities::plant(list, count, expected);
+        return communities::plant(out, list, count, expected);
     }
     if row::starts(case, b"large community") {
-        return communities::made(list, expected);
+        return communities::made(out, list, expected);
     }
     if row::starts(case, b"owners") {
-        return communities::owned(list, count, expected);
+        return communities::owned(out, list, count, expected);
     }
     if row::starts(case, b"network") {
-        return networks::owned(list, count, expected);
+        return networks::owned(out, list, count, expected);
     }
-    group_answer(case, list, count, expected)
+    group_answer(out, case, list, count, expected)
 }
 
 // The answer to a case, printed and held against the expected one.
-fn answer(case: &[u8], expected: &[u8]) -> Line {
+fn answer(out: &mut Vec<u8>, case: &[u8], expected: &[u8]) -> Result<Line, AllocError> {
     let r = row::numbers_of(case);
     let list = r.list;
     if row::starts(case, b"compare") {
-        return rates::compare(&list, expected);
+        return rates::compare(out, &list, expected);
     }
     if row::starts(case, b"reduce") {
-        return rates::reduce(&list, expected);
+        return rates::reduce(out, &list, expected);
     }
     if row::starts(case, b"check") {
-        return checks::plant(&list, r.count, expected);
+        return checks::plant(out, &list, r.count, expected);
     }
     if row::starts(case, b"lists") {
-        return checks::lists(&list, expected);
+        return checks::lists(out, &list, expected);
     }
-    community_answer(case, &list, r.count, expected)
+    community_answer(out, case, &list, r.count, expected)
 }
 
 // One row: the case and its answer.
-fn run(t: Tally, text: &[u8]) -> Tally {
+fn run(out: &mut Vec<u8>, t: Tally, text: &[u8]) -> Result<Tally, AllocError> {
     if row::starts(text, b"#") {
-        return t;
+        return Ok(t);
     }
     let end = row::find(text, 0, b';');
     let case = row::head(text, end);
     let expected = row::rest(text, end, 2);
-    print::text(b"case=");
-    print::text(case);
-    print::text(b": ");
-    let line = answer(case, expected);
-    print::verdict(t, line, expected)
+    print::text(out, b"case=")?;
+    print::text(out, case)?;
+    print::text(out, b": ")?;
+    let line = answer(out, case, expected)?;
+    print::verdict(out, t, line, expected)
 }
 
 // All rows of a table.
-fn run_all(table: &[u8]) -> Tally {
+fn run_all(out: &mut Vec<u8>, table: &[u8]) -> Result<Tally, AllocError> {
     let mut t = Tally { cases: 0, wrong: 0 };
     let mut start = 0;
     while start < table.len() {
         let end = row::find(table, start, b'\n');
-        t = run(t, &table[start..end]);
+        t = run(out, t, &table[start..end])?;
         start = end + 1;
     }
-    t
+    Ok(t)
 }
 
-fn main() {
-    let mut space = [0; 131072];
-    let k = io::read_full(STDIN_FILENO, &mut space);
-    print::total(run_all(&space[..k]));
+fn main(rt: HostRuntime) -> io::Result<()> {
+    let mut table = Vec::new(rt.alloc());
+    rt.stdin().take(131072).read_to_end(&mut table)?;
+    let mut out = Vec::new(rt.alloc());
+    let t = run_all(&mut out, &table)?;
+    print::total(&mut out, t)?;
+    io::writer(&rt).write_all(&out)
 }

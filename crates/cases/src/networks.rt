@@ -2,6 +2,7 @@
 use crate::print::Line;
 use crate::{print, row};
 use network::call::least_sets;
+use std::alloc::AllocError;
 
 // 1 for a node that is wanted.
 fn flag(x: usize) -> u8 {
@@ -14,7 +15,12 @@ fn taken(x: bool) -> usize {
 }
 
 // Four numbers for the wanted nodes, four for the drains, and nodes and lines as a plant is written out. The owners are 7 before.
-pub fn owned(list: &[usize; 64], count: usize, expected: &[u8]) -> Line {
+pub fn owned(
+    out: &mut Vec<u8>,
+    list: &[usize; 64],
+    count: usize,
+    expected: &[u8],
+) -> Result<Line, AllocError> {
     let mut firsts = [0; 16];
     let mut seconds = [0; 16];
     let mut widths = [0; 16];
@@ -41,6 +47,12 @@ pub fn owned(list: &[usize; 64], count: usize, expected: &[u8]) -> Line {
         &wanted,
         &mut owner,
     );
-    let line = print::value(Line { at: 0, same: true }, expected, b"taken=", taken(r));
-    print::list(line, expected, b" owners=", &owner)
+    let line = print::value(
+        out,
+        Line { at: 0, same: true },
+        expected,
+        b"taken=",
+        taken(r),
+    )?;
+    print::list(out, line, expected, b" owners=", &owner)
 }

@@ -72,13 +72,11 @@ pub fn fill(
 ) {
     let mut e = Ends { a: 0, b: 1 };
     let mut s = carried;
-    let mut i = 0;
-    while i < 1025 {
+    for i in 0..1025 {
         put(firsts, i, e.a);
         put(seconds, i, e.b);
         put(signals, i, s);
         e = next_line(n, reach, e);
         s = next_signals(s, fall);
-        i += 1;
     }
 }

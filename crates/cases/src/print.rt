@@ -1,5 +1,7 @@
-// The lines of the output: the case, its answer as key=value, and whether it is the expected one.
-use libc::STDOUT_FILENO;
+// The lines of the output: the case, its answer as key=value, and whether it is the expected one. Each function puts what it prints behind
+// what is printed already, in `out`.
+use itoa::Buffer;
+use std::alloc::AllocError;
 
 // How many cases were run, and how many of them did not answer as expected.
 #[derive(Clone, Copy)]
@@ -15,8 +17,14 @@ pub struct Line {
     pub same: bool,
 }
 
-pub fn text(bytes: &[u8]) {
-    io::write_all(STDOUT_FILENO, bytes);
+pub fn text(out: &mut Vec<u8>, bytes: &[u8]) -> Result<(), AllocError> {
+    out.extend_from_slice(bytes)
+}
+
+// A number in decimal digits.
+fn number(out: &mut Vec<u8>, x: u64) -> Result<(), AllocError> {
+    let mut digits = Buffer::new();
+    text(out, digits.format(x).as_bytes())
 }
 
 // One more byte of an answer, held against the expected one.
@@ -34,48 +42,77 @@ fn hold(line: Line, expected: &[u8], byte: u8) -> Line {
 }
 
 // Prints a part of an answer.
-pub fn say(line: Line, expected: &[u8], bytes: &[u8]) -> Line {
-    text(bytes);
+pub fn say(
+    out: &mut Vec<u8>,
+    line: Line,
+    expected: &[u8],
+    bytes: &[u8],
+) -> Result<Line, AllocError> {
+    text(out, bytes)?;
     let mut line = line;
-    let mut i = 0;
-    while i < bytes.len() {
-        line = hold(line, expected, bytes[i]);
-        i += 1;
+    for x in bytes {
+        line = hold(line, expected, *x);
     }
-    line
+    Ok(line)
 }
 
 // A number after its key, which comes with what sets it off.
-pub fn value(line: Line, expected: &[u8], key: &[u8], x: usize) -> Line {
-    let line = say(line, expected, key);
-    let mut digits = [0u8; 20];
-    let k = io::decimal(x as u64, &mut digits);
-    say(line, expected, &digits[..k])
+pub fn value(
+    out: &mut Vec<u8>,
+    line: Line,
+    expected: &[u8],
+    key: &[u8],
+    x: usize,
+) -> Result<Line, AllocError> {
+    let line = say(out, line, expected, key)?;
+    let mut digits = Buffer::new();
+    say(out, line, expected, digits.format(x).as_bytes())
 }
 
 // The number and the place, with which every answer begins.
-pub fn refusal(expected: &[u8], number: usize, place: usize) -> Line {
-    let line = value(Line { at: 0, same: true }, expected, b"number=", number);
-    value(line, expected, b" place=", place)
+pub fn refusal(
+    out: &mut Vec<u8>,
+    expected: &[u8],
+    number: usize,
+    place: usize,
+) -> Result<Line, AllocError> {
+    let line = value(
+        out,
+        Line { at: 0, same: true },
+        expected,
+        b"number=",
+        number,
+    )?;
+    value(out, line, expected, b" place=", place)
 }
 
 // An entry of a list: a comma stands before each but the first.
-pub fn entry(line: Line, expected: &[u8], i: usize, x: usize) -> Line {
+pub fn entry(
+    out: &mut Vec<u8>,
+    line: Line,
+    expected: &[u8],
+    i: usize,
+    x: usize,
+) -> Result<Line, AllocError> {
     if i == 0 {
-        return value(line, expected, b"", x);
+        return value(out, line, expected, b"", x);
     }
-    value(line, expected, b",", x)
+    value(out, line, expected, b",", x)
 }
 
 // The entries of a list after a key.
-pub fn list(line: Line, expected: &[u8], key: &[u8], entries: &[usize]) -> Line {
-    let mut line = say(line, expected, key);
-    let mut i = 0;
-    while i < entries.len() {
-        line = entry(line, expected, i, entries[i]);
-        i += 1;
+pub fn list(
+    out: &mut Vec<u8>,
+    line: Line,
+    expected: &[u8],
+    key: &[u8],
+    entries: &[usize],
+) -> Result<Line, AllocError> {
+    let mut line = say(out, line, expected, key)?;
+    for (i, x) in entries.iter().enumerate() {
+        line = entry(out, line, expected, i, *x)?;
     }
-    line
+    Ok(line)
 }
 
 // A byte as a number.
@@ -84,65 +121,78 @@ fn wide(x: u8) -> usize {
 }
 
 // Marks after a key.
-pub fn marks(line: Line, expected: &[u8], key: &[u8], entries: &[u8]) -> Line {
-    let mut line = say(line, expected, key);
-    let mut i = 0;
-    while i < entries.len() {
-        line = entry(line, expected, i, wide(entries[i]));
-        i += 1;
+pub fn marks(
+    out: &mut Vec<u8>,
+    line: Line,
+    expected: &[u8],
+    key: &[u8],
+    entries: &[u8],
+) -> Result<Line, AllocError> {
+    let mut line = say(out, line, expected, key)?;
+    for (i, x) in entries.iter().enumerate() {
+        line = entry(out, line, expected, i, wide(*x))?;
     }
-    line
+    Ok(line)
 }
 
 // A byte as it stands in a row: | for a newline.
-fn byte(line: Line, expected: &[u8], x: u8) -> Line {
+fn byte(out: &mut Vec<u8>, line: Line, expected: &[u8], x: u8) -> Result<Line, AllocError> {
     if x == b'\n' {
-        return say(line, expected, b"|");
+        return say(out, line, expected, b"|");
     }
-    say(line, expected, &[x])
+    say(out, line, expected, &[x])
 }
 
 // Bytes after a key.
-pub fn bytes(line: Line, expected: &[u8], key: &[u8], list: &[u8]) -> Line {
-    let mut line = say(line, expected, key);
-    let mut i = 0;
-    while i < list.len() {
-        line = byte(line, expected, list[i]);
-        i += 1;
+pub fn bytes(
+    out: &mut Vec<u8>,
+    line: Line,
+    expected: &[u8],
+    key: &[u8],
+    list: &[u8],
+) -> Result<Line, AllocError> {
+    let mut line = say(out, line, expected, key)?;
+    for x in list {
+        line = byte(out, line, expected, *x)?;
     }
-    line
+    Ok(line)
 }
 
 // A case whose first word is not known.
-pub fn unknown() -> Line {
-    text(b"unknown");
-    Line { at: 0, same: false }
+pub fn unknown(out: &mut Vec<u8>) -> Result<Line, AllocError> {
+    text(out, b"unknown")?;
+    Ok(Line { at: 0, same: false })
 }
 
 // The end of a case's line, and the count of the case.
-pub fn verdict(t: Tally, line: Line, expected: &[u8]) -> Tally {
-    let cases = std::num::wrapping_add_u64(t.cases, 1);
+pub fn verdict(
+    out: &mut Vec<u8>,
+    t: Tally,
+    line: Line,
+    expected: &[u8],
+) -> Result<Tally, AllocError> {
+    let cases = t.cases.wrapping_add(1);
     if line.same && line.at == expected.len() {
-        text(b" ok\n");
-        return Tally {
+        text(out, b" ok\n")?;
+        return Ok(Tally {
             cases,
             wrong: t.wrong,
-        };
+        });
     }
-    text(b" wrong, expected ");
-    text(expected);
-    text(b"\n");
-    Tally {
+    text(out, b" wrong, expected ")?;
+    text(out, expected)?;
+    text(out, b"\n")?;
+    Ok(Tally {
         cases,
-        wrong: std::num::wrapping_add_u64(t.wrong, 1),
-    }
+        wrong: t.wrong.wrapping_add(1),
+    })
 }
 
 // The last line.
-pub fn total(t: Tally) {
-    text(b"cases=");
-    io::print_decimal(STDOUT_FILENO, t.cases);
-    text(b" wrong=");
-    io::print_decimal(STDOUT_FILENO, t.wrong);
-    text(b"\n");
+pub fn total(out: &mut Vec<u8>, t: Tally) -> Result<(), AllocError> {
+    text(out, b"cases=")?;
+    number(out, t.cases)?;
+    text(out, b" wrong=")?;
+    number(out, t.wrong)?;
+    text(out, b"\n")
 }

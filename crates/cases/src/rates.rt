@@ -2,26 +2,27 @@
 use crate::print::Line;
 use crate::{print, row};
 use cut::rate::Rate;
+use std::alloc::AllocError;
 
 // The rate that a list has from a number on.
 pub fn rate_at(list: &[usize; 64], from: usize) -> Rate {
     Rate {
         p: row::entry(list, from),
-        q: row::entry(list, std::num::wrapping_add_usize(from, 1)),
+        q: row::entry(list, from.wrapping_add(1)),
     }
 }
 
-pub fn compare(list: &[usize; 64], expected: &[u8]) -> Line {
+pub fn compare(out: &mut Vec<u8>, list: &[usize; 64], expected: &[u8]) -> Result<Line, AllocError> {
     let first = rate_at(list, 0);
     let r = first.compare(rate_at(list, 2));
-    let line = print::refusal(expected, r.number, r.place);
-    print::value(line, expected, b" order=", r.order)
+    let line = print::refusal(out, expected, r.number, r.place)?;
+    print::value(out, line, expected, b" order=", r.order)
 }
 
-pub fn reduce(list: &[usize; 64], expected: &[u8]) -> Line {
+pub fn reduce(out: &mut Vec<u8>, list: &[usize; 64], expected: &[u8]) -> Result<Line, AllocError> {
     let rate = rate_at(list, 0);
     let r = rate.reduce();
-    let line = print::refusal(expected, r.number, r.place);
-    let line = print::value(line, expected, b" rate=", r.p);
-    print::value(line, expected, b"/", r.q)
+    let line = print::refusal(out, expected, r.number, r.place)?;
+    let line = print::value(out, line, expected, b" rate=", r.p)?;
+    print::value(out, line, expected, b"/", r.q)
 }

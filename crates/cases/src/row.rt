@@ -23,19 +23,17 @@ pub fn find(text: &[u8], from: usize, byte: u8) -> usize
     requires { from ≤ length text.now }
     ensures { (from ≤ result) × (result ≤ length text.now) }
 {
-    let mut i = from;
-    while i < text.len() {
+    for i in from..text.len() {
         if text[i] == byte {
             return i;
         }
-        i += 1;
     }
-    i
+    text.len()
 }
 
 // What stands in a text from a place and some bytes more on.
 pub fn rest(text: &[u8], from: usize, more: usize) -> &[u8] {
-    let start = std::num::wrapping_add_usize(from, more);
+    let start = from.wrapping_add(more);
     if start < text.len() {
         return &text[start..];
     }
@@ -44,15 +42,13 @@ pub fn rest(text: &[u8], from: usize, more: usize) -> &[u8] {
 
 // Whether a text starts with a word.
 pub fn starts(text: &[u8], word: &[u8]) -> bool {
-    let mut i = 0;
-    while i < word.len() {
+    for i in 0..word.len() {
         if text.len() <= i {
             return false;
         }
         if text[i] != word[i] {
             return false;
         }
-        i += 1;
     }
     true
 }
@@ -129,10 +125,8 @@ pub fn numbers_of(text: &[u8]) -> Numbers {
         in_number: false,
         in_word: false,
     };
-    let mut i = 0;
-    while i < text.len() {
-        r = read(r, text[i]);
-        i += 1;
+    for byte in text {
+        r = read(r, *byte);
     }
     closed(r, false)
 }
@@ -145,11 +139,9 @@ pub fn entry(list: &[usize; 64], i: usize) -> usize {
 // Every third number of a list from one on, as many as there is room for.
 fn column(list: &[usize; 64], from: usize, entries: &mut [usize]) {
     let mut at = from;
-    let mut i = 0;
-    while i < entries.len() {
-        entries[i] = entry(list, at);
-        at = std::num::wrapping_add_usize(at, 3);
-        i += 1;
+    for x in entries {
+        *x = entry(list, at);
+        at = at.wrapping_add(3);
     }
 }
 
@@ -162,12 +154,12 @@ pub fn plant(
     seconds: &mut [usize],
     signals: &mut [usize],
 ) -> Size {
-    column(list, std::num::wrapping_add_usize(from, 1), firsts);
-    column(list, std::num::wrapping_add_usize(from, 2), seconds);
-    column(list, std::num::wrapping_add_usize(from, 3), signals);
+    column(list, from.wrapping_add(1), firsts);
+    column(list, from.wrapping_add(2), seconds);
+    column(list, from.wrapping_add(3), signals);
     Size {
         n: entry(list, from),
-        lines: std::num::wrapping_sub_usize(count, from) / 3,
+        lines: count.wrapping_sub(from) / 3,
     }
 }
 

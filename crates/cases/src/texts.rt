@@ -2,6 +2,7 @@
 use crate::print::Line;
 use crate::{plants, print, row};
 use rules::LINES;
+use std::alloc::AllocError;
 use text::Reading;
 use text::read::read_plant;
 use text::write::write_plant;
@@ -26,22 +27,21 @@ fn put(bytes: &mut [u8], i: usize, byte: u8) {
 
 // Puts what a row stands for into bytes, from a place on.
 pub fn spell(case: &[u8], bytes: &mut [u8], from: usize) {
-    let mut i = 0;
-    while i < case.len() {
-        put(bytes, std::num::wrapping_add_usize(from, i), meant(case[i]));
-        i += 1;
+    for (i, x) in case.iter().enumerate() {
+        put(bytes, from.wrapping_add(i), meant(*x));
     }
 }
 
 // What reading answers.
-fn answered(r: Reading, expected: &[u8]) -> Line {
-    let line = print::refusal(expected, r.number, r.place);
-    let line = print::value(line, expected, b" devices=", r.devices);
-    print::value(line, expected, b" lines=", r.lines)
+fn answered(out: &mut Vec<u8>, r: Reading, expected: &[u8]) -> Result<Line, AllocError> {
+    let line = print::refusal(out, expected, r.number, r.place)?;
+    let line = print::value(out, line, expected, b" devices=", r.devices)?;
+    print::value(out, line, expected, b" lines=", r.lines)
 }
 
 // " back" where the text of a plant is the one that it was read from.
 fn back(
+    out: &mut Vec<u8>,
     line: Line,
     r: Reading,
     firsts: &[usize],
@@ -49,7 +49,7 @@ fn back(
     signals: &[usize],
     bytes: &[u8],
     expected: &[u8],
-) -> Line {
+) -> Result<Line, AllocError> {
     let mut written = [0; 32768];
     let w = write_plant(
         r.devices,
@@ -60,58 +60,56 @@ fn back(
     );
     let again = row::head(&written, w.count);
     if w.number == 0 && again.len() == bytes.len() && row::starts(again, bytes) {
-        return print::say(line, expected, b" back");
+        return print::say(out, line, expected, b" back");
     }
-    line
+    Ok(line)
 }
 
 // Reading into lists of three entries, which all are 77 before, with the lists afterwards.
-fn read_in(bytes: &[u8], expected: &[u8]) -> Line {
+fn read_in(out: &mut Vec<u8>, bytes: &[u8], expected: &[u8]) -> Result<Line, AllocError> {
     let mut firsts = [77; 3];
     let mut seconds = [77; 3];
     let mut signals = [77; 3];
     let r = read_plant(bytes, &mut firsts, &mut seconds, &mut signals);
-    let line = answered(r, expected);
-    let line = print::list(line, expected, b" firsts=", &firsts);
-    let line = print::list(line, expected, b" seconds=", &seconds);
-    let line = print::list(line, expected, b" signals=", &signals);
-    back(line, r, &firsts, &seconds, &signals, bytes, expected)
+    let line = answered(out, r, expected)?;
+    let line = print::list(out, line, expected, b" firsts=", &firsts)?;
+    let line = print::list(out, line, expected, b" seconds=", &seconds)?;
+    let line = print::list(out, line, expected, b" signals=", &signals)?;
+    back(out, line, r, &firsts, &seconds, &signals, bytes, expected)
 }
 
 // Reading into lists of 1,024 entries.
-fn read_back(bytes: &[u8], expected: &[u8]) -> Line {
+fn read_back(out: &mut Vec<u8>, bytes: &[u8], expected: &[u8]) -> Result<Line, AllocError> {
     let mut firsts = [0; LINES];
     let mut seconds = [0; LINES];
     let mut signals = [0; LINES];
     let r = read_plant(bytes, &mut firsts, &mut seconds, &mut signals);
-    back(
-        answered(r, expected),
-        r,
-        &firsts,
-        &seconds,
-        &signals,
-        bytes,
-        expected,
-    )
+    let line = answered(out, r, expected)?;
+    back(out, line, r, &firsts, &seconds, &signals, bytes, expected)
 }
 
 // A text that is written out.
-pub fn read(case: &[u8], expected: &[u8]) -> Line {
+pub fn read(out: &mut Vec<u8>, case: &[u8], expected: &[u8]) -> Result<Line, AllocError> {
     let text = row::rest(case, 0, 5);
     let mut bytes = [0; 512];
     spell(text, &mut bytes, 0);
-    read_in(row::head(&bytes, text.len()), expected)
+    read_in(out, row::head(&bytes, text.len()), expected)
 }
 
 // A text that is written out, with newlines after it up to a length.
-pub fn long(list: &[usize; 64], case: &[u8], expected: &[u8]) -> Line {
+pub fn long(
+    out: &mut Vec<u8>,
+    list: &[usize; 64],
+    case: &[u8],
+    expected: &[u8],
+) -> Result<Line, AllocError> {
     let mut bytes = [b'\n'; 32769];
     spell(row::rest(case, 0, 11), &mut bytes, 0);
-    read_in(row::head(&bytes, row::entry(list, 0)), expected)
+    read_in(out, row::head(&bytes, row::entry(list, 0)), expected)
 }
 
 // A plant made by a rule, written and read back: reach, devices, lines, the signals of each line. Answers what reading does, and whether it is written back as it was.
-pub fn full(list: &[usize; 64], expected: &[u8]) -> Line {
+pub fn full(out: &mut Vec<u8>, list: &[usize; 64], expected: &[u8]) -> Result<Line, AllocError> {
     let mut firsts = [0; LINES];
     let mut seconds = [0; LINES];
     let mut signals = [0; LINES];
@@ -134,12 +132,12 @@ pub fn full(list: &[usize; 64], expected: &[u8]) -> Line {
         row::part(&signals, lines),
         &mut bytes,
     );
-    let line = read_back(row::head(&bytes, w.count), expected);
-    print::value(line, expected, b" count=", w.count)
+    let line = read_back(out, row::head(&bytes, w.count), expected)?;
+    print::value(out, line, expected, b" count=", w.count)
 }
 
 // The text of 1,024 lines with one row more, and another stated number of lines of four digits.
-pub fn surplus(case: &[u8], expected: &[u8]) -> Line {
+pub fn surplus(out: &mut Vec<u8>, case: &[u8], expected: &[u8]) -> Result<Line, AllocError> {
     let mut firsts = [0; LINES];
     let mut seconds = [0; LINES];
     let mut signals = [0; LINES];
@@ -150,21 +148,24 @@ pub fn surplus(case: &[u8], expected: &[u8]) -> Line {
     spell(row::rest(case, 0, 8), &mut bytes, stated.len());
     let more = b"line=113,121,1|";
     let last = b"end=plant|";
-    let at = std::num::wrapping_sub_usize(w.count, last.len());
+    let at = w.count.wrapping_sub(last.len());
     spell(more, &mut bytes, at);
-    spell(
-        last,
-        &mut bytes,
-        std::num::wrapping_add_usize(at, more.len()),
-    );
+    spell(last, &mut bytes, at.wrapping_add(more.len()));
     read_back(
-        row::head(&bytes, std::num::wrapping_add_usize(w.count, more.len())),
+        out,
+        row::head(&bytes, w.count.wrapping_add(more.len())),
         expected,
     )
 }
 
 // Writing into lent bytes, with the bytes afterwards.
-fn written(list: &[usize; 64], count: usize, expected: &[u8], bytes: &mut [u8]) -> Line {
+fn written(
+    out: &mut Vec<u8>,
+    list: &[usize; 64],
+    count: usize,
+    expected: &[u8],
+    bytes: &mut [u8],
+) -> Result<Line, AllocError> {
     let mut firsts = [0; 16];
     let mut seconds = [0; 16];
     let mut signals = [0; 16];
@@ -176,14 +177,19 @@ fn written(list: &[usize; 64], count: usize, expected: &[u8], bytes: &mut [u8]) 
         row::part(&signals, g.lines),
         bytes,
     );
-    let line = print::refusal(expected, w.number, w.place);
-    let line = print::value(line, expected, b" count=", w.count);
-    print::bytes(line, expected, b" text=", bytes)
+    let line = print::refusal(out, expected, w.number, w.place)?;
+    let line = print::value(out, line, expected, b" count=", w.count)?;
+    print::bytes(out, line, expected, b" text=", bytes)
 }
 
 // The room for the bytes, which all are * before, and a plant that is written out.
-pub fn write(list: &[usize; 64], count: usize, expected: &[u8]) -> Line {
+pub fn write(
+    out: &mut Vec<u8>,
+    list: &[usize; 64],
+    count: usize,
+    expected: &[u8],
+) -> Result<Line, AllocError> {
     let mut bytes = [b'*'; 128];
     let room = row::at_most(row::entry(list, 0), 128);
-    written(list, count, expected, &mut bytes[..room])
+    written(out, list, count, expected, &mut bytes[..room])
 }

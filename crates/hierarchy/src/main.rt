@@ -2,14 +2,14 @@
 // One byte more than a text may have is read, so that a longer one is refused and not held.
 #![tactic(auto)]
 
-use libc::{STDIN_FILENO, STDOUT_FILENO};
+use std::io;
+use std::io::{Read, Write};
 use text::show::list_text;
 
-fn main() {
-    let mut text = [0u8; 32769];
-    let k = io::read_full(STDIN_FILENO, &mut text);
+fn main(rt: HostRuntime) -> io::Result<()> {
+    let mut text = Vec::new(rt.alloc());
+    rt.reader().take(32769).read_to_end(&mut text)?;
     let mut bytes = [0u8; 262144];
-    let w = list_text(&text[..k], &mut bytes);
-    let count = w.count;
-    io::write_all(STDOUT_FILENO, &bytes[..count]);
+    let w = list_text(&text, &mut bytes);
+    io::writer(&rt).write_all(&bytes[..w.count])
 }
