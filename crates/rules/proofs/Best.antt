@@ -3,21 +3,21 @@
 -- Assumes nothing.
 use Prim.Native.Nat.{ℕ, zero, suc, ◌≤◌, ◌<◌}
 use mathlib.Core.Path.{◌≡◌, refl, ap, sym, ◌∙◌}
-use mathlib.Core.Bool.{Bool, true, false, not, ◌&&◌, ◌||◌, cond, false≢true}
+use mathlib.Core.Bool.{Bool, true, false, ◌&&◌, ◌||◌, cond, false≢true}
 use mathlib.Core.List.Memᴰ
 use mathlib.Core.List.{List, [], ◌∷◌, map, Memᴰ}
 use mathlib.Core.Logic.{◌⊎◌, inl, inr}
-use native.Mathlib.Nat.{le_refl, le_step, le_trans, le_of_suc-le, lt-suc_self}
+use native.Mathlib.Nat.{le_refl, le_trans, le_of_suc-le}
 use native.Mathlib.Omega.{arith}
 use lib.Dec.{ltb, eqb}
 use borrow.Author.Tests.{ltb-true, ltb-false, eqb-true, eqb-false, lt-ltb, le-ltb, eq-eqb, ne_eqb}
 use Rattle.rules.specs.Plant.{Plant}
 use Rattle.rules.specs.Accepted.{Sound}
 use Rattle.rules.specs.Cut.{Devices, size, cost}
-use Rattle.rules.specs.Sets.{Inside, Agree}
+use Rattle.rules.specs.Sets.{Agree}
 use Rattle.rules.specs.Community.{with, sets, everyone, better, best, community}
-use Rattle.rules.specs.CommunityIs.{IsCommunityIn, IsCommunity}
-use Rattle.rules.proofs.SetLaws.{and_left, and_right, below_suc}
+use Rattle.rules.specs.CommunityIs.{IsCommunity}
+use Rattle.rules.proofs.SetLaws.{below_suc}
 use Rattle.rules.proofs.Sums.{agree-size, agree-cost}
 
 -- S comes no later than T: it costs no more, and at equal cost has no more devices

@@ -1,7 +1,7 @@
 -- Laws of communities at one rate: a community is the only one of its device; it lies inside every set that is as cheap; and two communities at one rate are nested or share nothing. The lemmas over `IsCommunityIn` hold inside any fence.
 -- Assumes nothing.
 use Prim.Native.Nat.{ℕ, ◌*◌, ◌≤◌, ◌<◌}
-use mathlib.Core.Path.{◌≡◌, refl, sym, ◌∙◌}
+use mathlib.Core.Path.{◌≡◌, refl, ◌∙◌}
 use mathlib.Core.Bool.{Bool, true, false, not, ◌||◌}
 use mathlib.Core.Logic.{◌⊎◌, inl, inr}
 use native.Mathlib.Nat.{le_trans, one-le-mul}

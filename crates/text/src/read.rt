@@ -134,7 +134,8 @@ pub fn read_plant(
     let mut s = [0usize; LINES];
     reader::rows_of(text, at, m, &mut a, &mut b, &mut s);
     let r = check::check_plant(f.devices, &a[..m], &b[..m], &s[..m]);
-    if r.number != 0 {
+    let verdict = r.number;
+    if verdict != 0 {
         return refused(r.number, r.place);
     }
     if no_room(m, firsts.len(), seconds.len(), signals.len()) {

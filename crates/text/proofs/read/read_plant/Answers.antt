@@ -77,17 +77,17 @@ slice_bounds-s-end c = front_fits _ c.rows_of.new.s (front-long (λ w. w.signals
 pub slice_bounds-check_plant-end-3 : goal.slice_bounds-check_plant-end-3
 slice_bounds-check_plant-end-3 c = sym (front-long (λ w. w.signals) _ _ _ c.rows_of.ensures.2)
 
-pub returns-then-r-ne0 : goal.returns-then-r-ne0
-returns-then-r-ne0 c =
+pub returns-then-verdict-ne0 : goal.returns-then-verdict-ne0
+returns-then-verdict-ne0 c =
     read-wrong c.args.text.now c.args.firsts.now c.args.seconds.now c.args.signals.now
     (known c.args.text.now c.form_of-f.ensures c.head_fault-h.ensures c.if-h-ne0.false c.if-text-gt32768.false _ _ _ c.rows_of.ensures)
-    c.check_plant-r.ensures c.if-r-ne0.true c.refused-then-r-ne0.ensures
+    c.check_plant-r.ensures c.if-verdict-ne0.true c.refused-then-verdict-ne0.ensures
 
 pub returns-then-no_room : goal.returns-then-no_room
 returns-then-no_room c =
     read-no-room c.args.text.now c.args.firsts.now c.args.seconds.now c.args.signals.now
     (known c.args.text.now c.form_of-f.ensures c.head_fault-h.ensures c.if-h-ne0.false c.if-text-gt32768.false _ _ _ c.rows_of.ensures)
-    c.check_plant-r.ensures c.if-r-ne0.false c.no_room.ensures c.if-no_room.true c.refused-then-no_room.ensures
+    c.check_plant-r.ensures c.if-verdict-ne0.false c.no_room.ensures c.if-no_room.true c.refused-then-no_room.ensures
 
 pub slice_bounds-a-end-2 : goal.slice_bounds-a-end-2
 slice_bounds-a-end-2 c = front_fits _ c.rows_of.new.a (front-long (λ w. w.first) _ _ _ c.rows_of.ensures.0)
@@ -120,4 +120,4 @@ pub returns : goal.returns
 returns c =
     read_done c.args.text.now c.args.firsts.now c.args.seconds.now c.args.signals.now
     (known c.args.text.now c.form_of-f.ensures c.head_fault-h.ensures c.if-h-ne0.false c.if-text-gt32768.false _ _ _ c.rows_of.ensures)
-    c.check_plant-r.ensures c.if-r-ne0.false c.no_room.ensures c.if-no_room.false refl c.fill.ensures c.fill-2.ensures c.fill-3.ensures
+    c.check_plant-r.ensures c.if-verdict-ne0.false c.no_room.ensures c.if-no_room.false refl c.fill.ensures c.fill-2.ensures c.fill-3.ensures
