@@ -2,15 +2,16 @@
 use crate::print::Line;
 use crate::{plants, print, row};
 use cut::check::check_plant;
-use std::alloc::AllocError;
+use std::io;
+use std::io::Write;
 
 // A plant that is written out: n, and the lines.
-pub fn plant(
-    out: &mut Vec<u8>,
+pub fn plant<W: Write>(
+    out: &mut W,
     list: &[usize; 64],
     count: usize,
     expected: &[u8],
-) -> Result<Line, AllocError> {
+) -> io::Result<Line> {
     let mut firsts = [0; 16];
     let mut seconds = [0; 16];
     let mut signals = [0; 16];
@@ -30,7 +31,7 @@ fn or_one(x: usize) -> usize {
 }
 
 // Three lists of any length, n devices, and the signals of line 1,023. The other lines that are there break no rule on 128 devices.
-pub fn lists(out: &mut Vec<u8>, list: &[usize; 64], expected: &[u8]) -> Result<Line, AllocError> {
+pub fn lists<W: Write>(out: &mut W, list: &[usize; 64], expected: &[u8]) -> io::Result<Line> {
     let mut firsts = [0; 1025];
     let mut seconds = [0; 1025];
     let mut signals = [0; 1025];

@@ -4,23 +4,24 @@ use crate::{plants, print, rates, row};
 use cut::community::{Answer, community};
 use cut::owners::owners;
 use rules::DEVICES;
-use std::alloc::AllocError;
+use std::io;
+use std::io::Write;
 
 // What the call answers beside the marks.
-fn answered(out: &mut Vec<u8>, r: Answer, expected: &[u8]) -> Result<Line, AllocError> {
+fn answered<W: Write>(out: &mut W, r: Answer, expected: &[u8]) -> io::Result<Line> {
     let line = print::refusal(out, expected, r.number, r.place)?;
     let line = print::value(out, line, expected, b" size=", r.size)?;
     print::value(out, line, expected, b" out=", r.out)
 }
 
 // The community in lent marks, with the marks afterwards.
-fn marked(
-    out: &mut Vec<u8>,
+fn marked<W: Write>(
+    out: &mut W,
     list: &[usize; 64],
     count: usize,
     expected: &[u8],
     marks: &mut [u8],
-) -> Result<Line, AllocError> {
+) -> io::Result<Line> {
     let mut firsts = [0; 16];
     let mut seconds = [0; 16];
     let mut signals = [0; 16];
@@ -39,19 +40,19 @@ fn marked(
 }
 
 // The device, the rate, the room in the marks, which all are 7 before, and a plant that is written out.
-pub fn plant(
-    out: &mut Vec<u8>,
+pub fn plant<W: Write>(
+    out: &mut W,
     list: &[usize; 64],
     count: usize,
     expected: &[u8],
-) -> Result<Line, AllocError> {
+) -> io::Result<Line> {
     let mut marks = [7u8; 16];
     let room = row::at_most(row::entry(list, 3), 16);
     marked(out, list, count, expected, &mut marks[..room])
 }
 
 // The device, the rate, and a plant made by a rule: reach, devices, the lengths of the three lists, the signals of each line.
-pub fn made(out: &mut Vec<u8>, list: &[usize; 64], expected: &[u8]) -> Result<Line, AllocError> {
+pub fn made<W: Write>(out: &mut W, list: &[usize; 64], expected: &[u8]) -> io::Result<Line> {
     let mut firsts = [0; 1025];
     let mut seconds = [0; 1025];
     let mut signals = [0; 1025];
@@ -80,12 +81,12 @@ pub fn made(out: &mut Vec<u8>, list: &[usize; 64], expected: &[u8]) -> Result<Li
 }
 
 // The rate, and a plant that is written out. The owners are 7 before.
-pub fn owned(
-    out: &mut Vec<u8>,
+pub fn owned<W: Write>(
+    out: &mut W,
     list: &[usize; 64],
     count: usize,
     expected: &[u8],
-) -> Result<Line, AllocError> {
+) -> io::Result<Line> {
     let mut firsts = [0; 16];
     let mut seconds = [0; 16];
     let mut signals = [0; 16];

@@ -3,22 +3,23 @@ use crate::print::Line;
 use crate::{plants, print, rates, row};
 use grouping::grouping::{Grouping, groups_at};
 use rules::DEVICES;
-use std::alloc::AllocError;
+use std::io;
+use std::io::Write;
 
 // What the call answers beside the labels.
-fn answered(out: &mut Vec<u8>, r: Grouping, expected: &[u8]) -> Result<Line, AllocError> {
+fn answered<W: Write>(out: &mut W, r: Grouping, expected: &[u8]) -> io::Result<Line> {
     let line = print::refusal(out, expected, r.number, r.place)?;
     print::value(out, line, expected, b" groups=", r.groups)
 }
 
 // The groups in lent labels, with the labels afterwards.
-fn labelled(
-    out: &mut Vec<u8>,
+fn labelled<W: Write>(
+    out: &mut W,
     list: &[usize; 64],
     count: usize,
     expected: &[u8],
     labels: &mut [usize],
-) -> Result<Line, AllocError> {
+) -> io::Result<Line> {
     let mut firsts = [0; 16];
     let mut seconds = [0; 16];
     let mut signals = [0; 16];
@@ -36,19 +37,19 @@ fn labelled(
 }
 
 // The rate, the room in the labels, which all are 77 before, and a plant that is written out.
-pub fn plant(
-    out: &mut Vec<u8>,
+pub fn plant<W: Write>(
+    out: &mut W,
     list: &[usize; 64],
     count: usize,
     expected: &[u8],
-) -> Result<Line, AllocError> {
+) -> io::Result<Line> {
     let mut labels = [77; 16];
     let room = row::at_most(row::entry(list, 2), 16);
     labelled(out, list, count, expected, &mut labels[..room])
 }
 
 // The rate, and a plant made by a rule: reach, devices, the lengths of the three lists, the signals of each line.
-pub fn made(out: &mut Vec<u8>, list: &[usize; 64], expected: &[u8]) -> Result<Line, AllocError> {
+pub fn made<W: Write>(out: &mut W, list: &[usize; 64], expected: &[u8]) -> io::Result<Line> {
     let mut firsts = [0; 1025];
     let mut seconds = [0; 1025];
     let mut signals = [0; 1025];

@@ -5,7 +5,8 @@ use grouping::hierarchy::{Levels, hierarchy};
 use grouping::joining::{Joining, joining_rate};
 use grouping::row::check_row;
 use rules::{DEVICES, LINES};
-use std::alloc::AllocError;
+use std::io;
+use std::io::Write;
 use text::read::read_plant;
 
 // An entry before the call, where it is not printed: more than any number that is filled in.
@@ -35,33 +36,33 @@ fn called(
 }
 
 // What the call answers beside the lists.
-fn counted(out: &mut Vec<u8>, r: Levels, expected: &[u8]) -> Result<Line, AllocError> {
+fn counted<W: Write>(out: &mut W, r: Levels, expected: &[u8]) -> io::Result<Line> {
     let line = print::refusal(out, expected, r.number, r.place)?;
     print::value(out, line, expected, b" levels=", r.levels)
 }
 
 // The two lists of low rates.
-fn lows(
-    out: &mut Vec<u8>,
+fn lows<W: Write>(
+    out: &mut W,
     line: Line,
     expected: &[u8],
     low_p: &[usize],
     low_q: &[usize],
-) -> Result<Line, AllocError> {
+) -> io::Result<Line> {
     let line = print::list(out, line, expected, b" low_p=", low_p)?;
     print::list(out, line, expected, b" low_q=", low_q)
 }
 
 // What the call answers, with the lists afterwards.
-fn listed(
-    out: &mut Vec<u8>,
+fn listed<W: Write>(
+    out: &mut W,
     list: &[usize; 64],
     count: usize,
     expected: &[u8],
     labels: &mut [usize],
     low_p: &mut [usize],
     low_q: &mut [usize],
-) -> Result<Line, AllocError> {
+) -> io::Result<Line> {
     let r = called(list, count, labels, low_p, low_q);
     let line = counted(out, r, expected)?;
     let line = print::list(out, line, expected, b" labels=", labels)?;
@@ -69,12 +70,12 @@ fn listed(
 }
 
 // The room in the labels and in the two lists of low rates, which all are 77 before, and a plant that is written out.
-pub fn plant(
-    out: &mut Vec<u8>,
+pub fn plant<W: Write>(
+    out: &mut W,
     list: &[usize; 64],
     count: usize,
     expected: &[u8],
-) -> Result<Line, AllocError> {
+) -> io::Result<Line> {
     let mut labels = [77; 64];
     let mut low_p = [77; 16];
     let mut low_q = [77; 16];
@@ -112,14 +113,14 @@ fn number_of(of_level: bool, list: &[usize]) -> usize {
 }
 
 // The number of groups of each level.
-fn sizes(
-    out: &mut Vec<u8>,
+fn sizes<W: Write>(
+    out: &mut W,
     line: Line,
     expected: &[u8],
     labels: &[usize],
     n: usize,
     levels: usize,
-) -> Result<Line, AllocError> {
+) -> io::Result<Line> {
     let mut line = print::say(out, line, expected, b" groups=")?;
     for k in 0..levels {
         let level = grouping::row::row(labels, n, levels, k);
@@ -129,22 +130,22 @@ fn sizes(
 }
 
 // How many entries of each list are filled.
-fn filled(
-    out: &mut Vec<u8>,
+fn filled<W: Write>(
+    out: &mut W,
     line: Line,
     expected: &[u8],
     labels: &[usize],
     low_p: &[usize],
     low_q: &[usize],
-) -> Result<Line, AllocError> {
+) -> io::Result<Line> {
     let line = print::value(out, line, expected, b" filled=", number_of(false, labels))?;
     let line = print::value(out, line, expected, b",", number_of(false, low_p))?;
     print::value(out, line, expected, b",", number_of(false, low_q))
 }
 
 // The groups and the low rates of all levels, and the row of level k.
-fn told_of(
-    out: &mut Vec<u8>,
+fn told_of<W: Write>(
+    out: &mut W,
     r: Levels,
     expected: &[u8],
     n: usize,
@@ -152,7 +153,7 @@ fn told_of(
     labels: &[usize],
     low_p: &[usize],
     low_q: &[usize],
-) -> Result<Line, AllocError> {
+) -> io::Result<Line> {
     let line = counted(out, r, expected)?;
     let line = sizes(out, line, expected, labels, n, r.levels)?;
     let before_last = plants::below(r.levels);
@@ -163,15 +164,15 @@ fn told_of(
 }
 
 // The hierarchy of any plant: its levels in short, the row of level k, and how much is filled.
-fn whole(
-    out: &mut Vec<u8>,
+fn whole<W: Write>(
+    out: &mut W,
     n: usize,
     firsts: &[usize],
     seconds: &[usize],
     signals: &[usize],
     k: usize,
     expected: &[u8],
-) -> Result<Line, AllocError> {
+) -> io::Result<Line> {
     // n × n labels of at most 128 devices
     let mut labels = [BLANK; 16384];
     let mut low_p = [BLANK; DEVICES];
@@ -190,7 +191,7 @@ fn whole(
 }
 
 // The level whose row is shown, and a plant made by a rule: reach, devices, the lengths of the three lists, the signals of the first line, and by how many they fall.
-pub fn made(out: &mut Vec<u8>, list: &[usize; 64], expected: &[u8]) -> Result<Line, AllocError> {
+pub fn made<W: Write>(out: &mut W, list: &[usize; 64], expected: &[u8]) -> io::Result<Line> {
     let mut firsts = [0; 1025];
     let mut seconds = [0; 1025];
     let mut signals = [0; 1025];
@@ -216,12 +217,12 @@ pub fn made(out: &mut Vec<u8>, list: &[usize; 64], expected: &[u8]) -> Result<Li
 }
 
 // The level whose row is shown, and a plant text, in which | stands for a newline.
-pub fn told(
-    out: &mut Vec<u8>,
+pub fn told<W: Write>(
+    out: &mut W,
     case: &[u8],
     list: &[usize; 64],
     expected: &[u8],
-) -> Result<Line, AllocError> {
+) -> io::Result<Line> {
     let text = row::rest(case, row::find(case, 0, b'p'), 0);
     let mut bytes = [0; 4096];
     texts::spell(text, &mut bytes, 0);
@@ -249,12 +250,12 @@ pub fn told(
 }
 
 // The level, the level count, n, and the labels: what the companion answers, and the row.
-pub fn shown(
-    out: &mut Vec<u8>,
+pub fn shown<W: Write>(
+    out: &mut W,
     list: &[usize; 64],
     count: usize,
     expected: &[u8],
-) -> Result<Line, AllocError> {
+) -> io::Result<Line> {
     let numbers = &list[..];
     let labels = row::part(&numbers[3..], count.wrapping_sub(3));
     let n = row::entry(list, 2);
@@ -267,19 +268,19 @@ pub fn shown(
 }
 
 // What the joining rate's call answers.
-fn answered(out: &mut Vec<u8>, r: Joining, expected: &[u8]) -> Result<Line, AllocError> {
+fn answered<W: Write>(out: &mut W, r: Joining, expected: &[u8]) -> io::Result<Line> {
     let line = print::refusal(out, expected, r.number, r.place)?;
     let line = print::value(out, line, expected, b" rate=", r.p)?;
     print::value(out, line, expected, b"/", r.q)
 }
 
 // The two devices, and a plant that is written out.
-pub fn joining(
-    out: &mut Vec<u8>,
+pub fn joining<W: Write>(
+    out: &mut W,
     list: &[usize; 64],
     count: usize,
     expected: &[u8],
-) -> Result<Line, AllocError> {
+) -> io::Result<Line> {
     let mut firsts = [0; 16];
     let mut seconds = [0; 16];
     let mut signals = [0; 16];
@@ -296,11 +297,11 @@ pub fn joining(
 }
 
 // The two devices, and a plant made by a rule, as for a hierarchy.
-pub fn joining_made(
-    out: &mut Vec<u8>,
+pub fn joining_made<W: Write>(
+    out: &mut W,
     list: &[usize; 64],
     expected: &[u8],
-) -> Result<Line, AllocError> {
+) -> io::Result<Line> {
     let mut firsts = [0; 1025];
     let mut seconds = [0; 1025];
     let mut signals = [0; 1025];

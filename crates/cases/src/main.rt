@@ -14,18 +14,17 @@ mod row;
 mod texts;
 
 use print::{Line, Tally};
-use std::alloc::AllocError;
 use std::io;
 use std::io::{Read, Write};
 
 // The answer to a case on plant texts.
-fn text_answer(
-    out: &mut Vec<u8>,
+fn text_answer<W: Write>(
+    out: &mut W,
     case: &[u8],
     list: &[usize; 64],
     count: usize,
     expected: &[u8],
-) -> Result<Line, AllocError> {
+) -> io::Result<Line> {
     if row::starts(case, b"read") {
         return texts::read(out, case, expected);
     }
@@ -45,13 +44,13 @@ fn text_answer(
 }
 
 // The answer to a case on levels and joining rates, or a later one.
-fn level_answer(
-    out: &mut Vec<u8>,
+fn level_answer<W: Write>(
+    out: &mut W,
     case: &[u8],
     list: &[usize; 64],
     count: usize,
     expected: &[u8],
-) -> Result<Line, AllocError> {
+) -> io::Result<Line> {
     if row::starts(case, b"hierarchy") {
         return levels::plant(out, list, count, expected);
     }
@@ -74,13 +73,13 @@ fn level_answer(
 }
 
 // The answer to a case on groups, or a later one.
-fn group_answer(
-    out: &mut Vec<u8>,
+fn group_answer<W: Write>(
+    out: &mut W,
     case: &[u8],
     list: &[usize; 64],
     count: usize,
     expected: &[u8],
-) -> Result<Line, AllocError> {
+) -> io::Result<Line> {
     if row::starts(case, b"groups") {
         return groups::plant(out, list, count, expected);
     }
@@ -91,13 +90,13 @@ fn group_answer(
 }
 
 // The answer to a case on communities, or a later one.
-fn community_answer(
-    out: &mut Vec<u8>,
+fn community_answer<W: Write>(
+    out: &mut W,
     case: &[u8],
     list: &[usize; 64],
     count: usize,
     expected: &[u8],
-) -> Result<Line, AllocError> {
+) -> io::Result<Line> {
     if row::starts(case, b"community") {
         return communities::plant(out, list, count, expected);
     }
@@ -114,7 +113,7 @@ fn community_answer(
 }
 
 // The answer to a case, printed and held against the expected one.
-fn answer(out: &mut Vec<u8>, case: &[u8], expected: &[u8]) -> Result<Line, AllocError> {
+fn answer<W: Write>(out: &mut W, case: &[u8], expected: &[u8]) -> io::Result<Line> {
     let r = row::numbers_of(case);
     let list = r.list;
     if row::starts(case, b"compare") {
@@ -133,7 +132,7 @@ fn answer(out: &mut Vec<u8>, case: &[u8], expected: &[u8]) -> Result<Line, Alloc
 }
 
 // One row: the case and its answer.
-fn run(out: &mut Vec<u8>, t: Tally, text: &[u8]) -> Result<Tally, AllocError> {
+fn run<W: Write>(out: &mut W, t: Tally, text: &[u8]) -> io::Result<Tally> {
     if row::starts(text, b"#") {
         return Ok(t);
     }
@@ -148,7 +147,7 @@ fn run(out: &mut Vec<u8>, t: Tally, text: &[u8]) -> Result<Tally, AllocError> {
 }
 
 // All rows of a table.
-fn run_all(out: &mut Vec<u8>, table: &[u8]) -> Result<Tally, AllocError> {
+fn run_all<W: Write>(out: &mut W, table: &[u8]) -> io::Result<Tally> {
     let mut t = Tally { cases: 0, wrong: 0 };
     let mut start = 0;
     while start < table.len() {
@@ -162,8 +161,7 @@ fn run_all(out: &mut Vec<u8>, table: &[u8]) -> Result<Tally, AllocError> {
 fn main(rt: HostRuntime) -> io::Result<()> {
     let mut table = Vec::new(rt.alloc());
     rt.stdin().take(131072).read_to_end(&mut table)?;
-    let mut out = Vec::new(rt.alloc());
+    let mut out = io::writer(&rt);
     let t = run_all(&mut out, &table)?;
-    print::total(&mut out, t)?;
-    io::writer(&rt).write_all(&out)
+    print::total(&mut out, t)
 }

@@ -2,7 +2,8 @@
 use crate::print::Line;
 use crate::{print, row};
 use network::call::least_sets;
-use std::alloc::AllocError;
+use std::io;
+use std::io::Write;
 
 // 1 for a node that is wanted.
 fn flag(x: usize) -> u8 {
@@ -15,12 +16,12 @@ fn taken(x: bool) -> usize {
 }
 
 // Four numbers for the wanted nodes, four for the drains, and nodes and lines as a plant is written out. The owners are 7 before.
-pub fn owned(
-    out: &mut Vec<u8>,
+pub fn owned<W: Write>(
+    out: &mut W,
     list: &[usize; 64],
     count: usize,
     expected: &[u8],
-) -> Result<Line, AllocError> {
+) -> io::Result<Line> {
     let mut firsts = [0; 16];
     let mut seconds = [0; 16];
     let mut widths = [0; 16];

@@ -1,7 +1,8 @@
-// The lines of the output: the case, its answer as key=value, and whether it is the expected one. Each function puts what it prints behind
-// what is printed already, in `out`.
+// The lines of the output: the case, its answer as key=value, and whether it is the expected one. Each function prints
+// to `out`.
 use itoa::Buffer;
-use std::alloc::AllocError;
+use std::io;
+use std::io::Write;
 
 // How many cases were run, and how many of them did not answer as expected.
 #[derive(Clone, Copy)]
@@ -17,12 +18,12 @@ pub struct Line {
     pub same: bool,
 }
 
-pub fn text(out: &mut Vec<u8>, bytes: &[u8]) -> Result<(), AllocError> {
-    out.extend_from_slice(bytes)
+pub fn text<W: Write>(out: &mut W, bytes: &[u8]) -> io::Result<()> {
+    out.write_all(bytes)
 }
 
 // A number in decimal digits.
-fn number(out: &mut Vec<u8>, x: u64) -> Result<(), AllocError> {
+fn number<W: Write>(out: &mut W, x: u64) -> io::Result<()> {
     let mut digits = Buffer::new();
     text(out, digits.format(x).as_bytes())
 }
@@ -42,12 +43,7 @@ fn hold(line: Line, expected: &[u8], byte: u8) -> Line {
 }
 
 // Prints a part of an answer.
-pub fn say(
-    out: &mut Vec<u8>,
-    line: Line,
-    expected: &[u8],
-    bytes: &[u8],
-) -> Result<Line, AllocError> {
+pub fn say<W: Write>(out: &mut W, line: Line, expected: &[u8], bytes: &[u8]) -> io::Result<Line> {
     text(out, bytes)?;
     let mut line = line;
     for x in bytes {
@@ -57,25 +53,25 @@ pub fn say(
 }
 
 // A number after its key, which comes with what sets it off.
-pub fn value(
-    out: &mut Vec<u8>,
+pub fn value<W: Write>(
+    out: &mut W,
     line: Line,
     expected: &[u8],
     key: &[u8],
     x: usize,
-) -> Result<Line, AllocError> {
+) -> io::Result<Line> {
     let line = say(out, line, expected, key)?;
     let mut digits = Buffer::new();
     say(out, line, expected, digits.format(x).as_bytes())
 }
 
 // The number and the place, with which every answer begins.
-pub fn refusal(
-    out: &mut Vec<u8>,
+pub fn refusal<W: Write>(
+    out: &mut W,
     expected: &[u8],
     number: usize,
     place: usize,
-) -> Result<Line, AllocError> {
+) -> io::Result<Line> {
     let line = value(
         out,
         Line { at: 0, same: true },
@@ -87,13 +83,13 @@ pub fn refusal(
 }
 
 // An entry of a list: a comma stands before each but the first.
-pub fn entry(
-    out: &mut Vec<u8>,
+pub fn entry<W: Write>(
+    out: &mut W,
     line: Line,
     expected: &[u8],
     i: usize,
     x: usize,
-) -> Result<Line, AllocError> {
+) -> io::Result<Line> {
     if i == 0 {
         return value(out, line, expected, b"", x);
     }
@@ -101,13 +97,13 @@ pub fn entry(
 }
 
 // The entries of a list after a key.
-pub fn list(
-    out: &mut Vec<u8>,
+pub fn list<W: Write>(
+    out: &mut W,
     line: Line,
     expected: &[u8],
     key: &[u8],
     entries: &[usize],
-) -> Result<Line, AllocError> {
+) -> io::Result<Line> {
     let mut line = say(out, line, expected, key)?;
     for (i, x) in entries.iter().enumerate() {
         line = entry(out, line, expected, i, *x)?;
@@ -121,13 +117,13 @@ fn wide(x: u8) -> usize {
 }
 
 // Marks after a key.
-pub fn marks(
-    out: &mut Vec<u8>,
+pub fn marks<W: Write>(
+    out: &mut W,
     line: Line,
     expected: &[u8],
     key: &[u8],
     entries: &[u8],
-) -> Result<Line, AllocError> {
+) -> io::Result<Line> {
     let mut line = say(out, line, expected, key)?;
     for (i, x) in entries.iter().enumerate() {
         line = entry(out, line, expected, i, wide(*x))?;
@@ -136,7 +132,7 @@ pub fn marks(
 }
 
 // A byte as it stands in a row: | for a newline.
-fn byte(out: &mut Vec<u8>, line: Line, expected: &[u8], x: u8) -> Result<Line, AllocError> {
+fn byte<W: Write>(out: &mut W, line: Line, expected: &[u8], x: u8) -> io::Result<Line> {
     if x == b'\n' {
         return say(out, line, expected, b"|");
     }
@@ -144,13 +140,13 @@ fn byte(out: &mut Vec<u8>, line: Line, expected: &[u8], x: u8) -> Result<Line, A
 }
 
 // Bytes after a key.
-pub fn bytes(
-    out: &mut Vec<u8>,
+pub fn bytes<W: Write>(
+    out: &mut W,
     line: Line,
     expected: &[u8],
     key: &[u8],
     list: &[u8],
-) -> Result<Line, AllocError> {
+) -> io::Result<Line> {
     let mut line = say(out, line, expected, key)?;
     for x in list {
         line = byte(out, line, expected, *x)?;
@@ -159,18 +155,13 @@ pub fn bytes(
 }
 
 // A case whose first word is not known.
-pub fn unknown(out: &mut Vec<u8>) -> Result<Line, AllocError> {
+pub fn unknown<W: Write>(out: &mut W) -> io::Result<Line> {
     text(out, b"unknown")?;
     Ok(Line { at: 0, same: false })
 }
 
 // The end of a case's line, and the count of the case.
-pub fn verdict(
-    out: &mut Vec<u8>,
-    t: Tally,
-    line: Line,
-    expected: &[u8],
-) -> Result<Tally, AllocError> {
+pub fn verdict<W: Write>(out: &mut W, t: Tally, line: Line, expected: &[u8]) -> io::Result<Tally> {
     let cases = t.cases.wrapping_add(1);
     if line.same && line.at == expected.len() {
         text(out, b" ok\n")?;
@@ -189,7 +180,7 @@ pub fn verdict(
 }
 
 // The last line.
-pub fn total(out: &mut Vec<u8>, t: Tally) -> Result<(), AllocError> {
+pub fn total<W: Write>(out: &mut W, t: Tally) -> io::Result<()> {
     text(out, b"cases=")?;
     number(out, t.cases)?;
     text(out, b" wrong=")?;

@@ -2,7 +2,8 @@
 use crate::print::Line;
 use crate::{print, row};
 use cut::rate::Rate;
-use std::alloc::AllocError;
+use std::io;
+use std::io::Write;
 
 // The rate that a list has from a number on.
 pub fn rate_at(list: &[usize; 64], from: usize) -> Rate {
@@ -12,14 +13,14 @@ pub fn rate_at(list: &[usize; 64], from: usize) -> Rate {
     }
 }
 
-pub fn compare(out: &mut Vec<u8>, list: &[usize; 64], expected: &[u8]) -> Result<Line, AllocError> {
+pub fn compare<W: Write>(out: &mut W, list: &[usize; 64], expected: &[u8]) -> io::Result<Line> {
     let first = rate_at(list, 0);
     let r = first.compare(rate_at(list, 2));
     let line = print::refusal(out, expected, r.number, r.place)?;
     print::value(out, line, expected, b" order=", r.order)
 }
 
-pub fn reduce(out: &mut Vec<u8>, list: &[usize; 64], expected: &[u8]) -> Result<Line, AllocError> {
+pub fn reduce<W: Write>(out: &mut W, list: &[usize; 64], expected: &[u8]) -> io::Result<Line> {
     let rate = rate_at(list, 0);
     let r = rate.reduce();
     let line = print::refusal(out, expected, r.number, r.place)?;

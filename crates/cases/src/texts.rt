@@ -2,7 +2,8 @@
 use crate::print::Line;
 use crate::{plants, print, row};
 use rules::LINES;
-use std::alloc::AllocError;
+use std::io;
+use std::io::Write;
 use text::Reading;
 use text::read::read_plant;
 use text::write::write_plant;
@@ -33,15 +34,15 @@ pub fn spell(case: &[u8], bytes: &mut [u8], from: usize) {
 }
 
 // What reading answers.
-fn answered(out: &mut Vec<u8>, r: Reading, expected: &[u8]) -> Result<Line, AllocError> {
+fn answered<W: Write>(out: &mut W, r: Reading, expected: &[u8]) -> io::Result<Line> {
     let line = print::refusal(out, expected, r.number, r.place)?;
     let line = print::value(out, line, expected, b" devices=", r.devices)?;
     print::value(out, line, expected, b" lines=", r.lines)
 }
 
 // " back" where the text of a plant is the one that it was read from.
-fn back(
-    out: &mut Vec<u8>,
+fn back<W: Write>(
+    out: &mut W,
     line: Line,
     r: Reading,
     firsts: &[usize],
@@ -49,7 +50,7 @@ fn back(
     signals: &[usize],
     bytes: &[u8],
     expected: &[u8],
-) -> Result<Line, AllocError> {
+) -> io::Result<Line> {
     let mut written = [0; 32768];
     let w = write_plant(
         r.devices,
@@ -66,7 +67,7 @@ fn back(
 }
 
 // Reading into lists of three entries, which all are 77 before, with the lists afterwards.
-fn read_in(out: &mut Vec<u8>, bytes: &[u8], expected: &[u8]) -> Result<Line, AllocError> {
+fn read_in<W: Write>(out: &mut W, bytes: &[u8], expected: &[u8]) -> io::Result<Line> {
     let mut firsts = [77; 3];
     let mut seconds = [77; 3];
     let mut signals = [77; 3];
@@ -79,7 +80,7 @@ fn read_in(out: &mut Vec<u8>, bytes: &[u8], expected: &[u8]) -> Result<Line, All
 }
 
 // Reading into lists of 1,024 entries.
-fn read_back(out: &mut Vec<u8>, bytes: &[u8], expected: &[u8]) -> Result<Line, AllocError> {
+fn read_back<W: Write>(out: &mut W, bytes: &[u8], expected: &[u8]) -> io::Result<Line> {
     let mut firsts = [0; LINES];
     let mut seconds = [0; LINES];
     let mut signals = [0; LINES];
@@ -89,7 +90,7 @@ fn read_back(out: &mut Vec<u8>, bytes: &[u8], expected: &[u8]) -> Result<Line, A
 }
 
 // A text that is written out.
-pub fn read(out: &mut Vec<u8>, case: &[u8], expected: &[u8]) -> Result<Line, AllocError> {
+pub fn read<W: Write>(out: &mut W, case: &[u8], expected: &[u8]) -> io::Result<Line> {
     let text = row::rest(case, 0, 5);
     let mut bytes = [0; 512];
     spell(text, &mut bytes, 0);
@@ -97,19 +98,19 @@ pub fn read(out: &mut Vec<u8>, case: &[u8], expected: &[u8]) -> Result<Line, All
 }
 
 // A text that is written out, with newlines after it up to a length.
-pub fn long(
-    out: &mut Vec<u8>,
+pub fn long<W: Write>(
+    out: &mut W,
     list: &[usize; 64],
     case: &[u8],
     expected: &[u8],
-) -> Result<Line, AllocError> {
+) -> io::Result<Line> {
     let mut bytes = [b'\n'; 32769];
     spell(row::rest(case, 0, 11), &mut bytes, 0);
     read_in(out, row::head(&bytes, row::entry(list, 0)), expected)
 }
 
 // A plant made by a rule, written and read back: reach, devices, lines, the signals of each line. Answers what reading does, and whether it is written back as it was.
-pub fn full(out: &mut Vec<u8>, list: &[usize; 64], expected: &[u8]) -> Result<Line, AllocError> {
+pub fn full<W: Write>(out: &mut W, list: &[usize; 64], expected: &[u8]) -> io::Result<Line> {
     let mut firsts = [0; LINES];
     let mut seconds = [0; LINES];
     let mut signals = [0; LINES];
@@ -137,7 +138,7 @@ pub fn full(out: &mut Vec<u8>, list: &[usize; 64], expected: &[u8]) -> Result<Li
 }
 
 // The text of 1,024 lines with one row more, and another stated number of lines of four digits.
-pub fn surplus(out: &mut Vec<u8>, case: &[u8], expected: &[u8]) -> Result<Line, AllocError> {
+pub fn surplus<W: Write>(out: &mut W, case: &[u8], expected: &[u8]) -> io::Result<Line> {
     let mut firsts = [0; LINES];
     let mut seconds = [0; LINES];
     let mut signals = [0; LINES];
@@ -159,13 +160,13 @@ pub fn surplus(out: &mut Vec<u8>, case: &[u8], expected: &[u8]) -> Result<Line, 
 }
 
 // Writing into lent bytes, with the bytes afterwards.
-fn written(
-    out: &mut Vec<u8>,
+fn written<W: Write>(
+    out: &mut W,
     list: &[usize; 64],
     count: usize,
     expected: &[u8],
     bytes: &mut [u8],
-) -> Result<Line, AllocError> {
+) -> io::Result<Line> {
     let mut firsts = [0; 16];
     let mut seconds = [0; 16];
     let mut signals = [0; 16];
@@ -183,12 +184,12 @@ fn written(
 }
 
 // The room for the bytes, which all are * before, and a plant that is written out.
-pub fn write(
-    out: &mut Vec<u8>,
+pub fn write<W: Write>(
+    out: &mut W,
     list: &[usize; 64],
     count: usize,
     expected: &[u8],
-) -> Result<Line, AllocError> {
+) -> io::Result<Line> {
     let mut bytes = [b'*'; 128];
     let room = row::at_most(row::entry(list, 0), 128);
     written(out, list, count, expected, &mut bytes[..room])

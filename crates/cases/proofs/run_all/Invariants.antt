@@ -3,4 +3,4 @@ use Rattle.std.proofs.Common.{length, ◌-◌}
 use Rattle.cases.proofs.run_all.Given as goal
 
 abbrev pub decreases-loop-start : goal.decreases-loop-start
-decreases-loop-start l = length l.table - l.start
+decreases-loop-start g l = length l.table - l.start
