@@ -5,7 +5,7 @@ use Rattle.rules.specs.Plant.{Plant}
 use Rattle.rules.specs.Groups.{table, label, groups}
 use Rattle.rules.specs.Rates.{Below, Lowest}
 
--- the rate p/q lies in the stretch of level i, of count levels, low_ps j/lowQ j being the low rate of level j:
+-- the rate p/q lies in the stretch of level i, of count levels, low_ps j/low_qs j being the low rate of level j:
 -- "at that rate itself and at all higher rates up to, without, the low rate of level i − 1 (for level 0, all higher rates)";
 -- "The last level holds for all positive rates under the previous low rate (a sole level: for all positive rates) and has no low rate"
 pub record InStretch (count : ℕ) (low_ps low_qs : ℕ → ℕ) (i p q : ℕ) : Type 0 where
