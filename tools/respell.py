@@ -107,7 +107,8 @@ def turned():
         new = APART.get(name, re.sub(r"^getD-", "get_or-", name) if name.startswith("getD-") else new)
         if new != name:
             table[name] = new
-    return table | APART
+    older = any(re.search(r"[a-z][A-Z]", name) for name in table)
+    return table | APART if older else {}
 
 
 def tokens(text):
@@ -122,6 +123,9 @@ def respell(text, table):
 
 def main():
     table = turned()
+    if not table:
+        print("every name has today's spelling: nothing to do")
+        return
     antt = files("crates/*/specs/**/*.antt", "crates/*/proofs/**/*.antt")
     rt = files("crates/*/src/**/*.rt")
     edits = files("crates/*/must-fail/*.edit")

@@ -1,6 +1,6 @@
 -- The call for the joining rate of two devices.
 --     pair-plant to pair-done, pair-clear   its first fault, test by test
---     turn-..                               a turn of the search between two known levels, in which the devices come together
+--     turn-.., turn_last                    a turn of the search between two known levels, in which the devices come together
 --     start-.., join-..                     how that search begins, and what the call answers
 -- Assumes nothing.
 use mathlib.Core.Path.{◌≡◌, refl, sym, ◌∙◌, ap}

@@ -1,5 +1,5 @@
 -- The lines of the network between two levels, put one by one.
---     put-..    a line that is put to the lines that were: to the last one, as one more, and with its ends in the other order
+--     put-.., put_last    a line that is put to the lines that were: to the last one, as one more, and with its ends in the other order
 --     joined-.. what the first lines of the plant make: none at the start, a line that is left out, and a line that is put
 -- Assumes nothing.
 use Prim.Native.Nat.{ℕ, ◌+◌, ◌-◌, ◌*◌, ◌≤◌, ◌<◌}

@@ -5,7 +5,7 @@
 --     search-join     the two halves in turn
 --     search-halves   the same at the crossing rate
 --     some-..         what two known levels are enough for
---     from-..         the same where the finer one's rate is given
+--     from-.., from_some the same where the finer one's rate is given
 --     labels-groups   a list of labels as the groups at its rate
 --     same_numbers    the test of two rates, number by number
 -- Assumes nothing.

@@ -8,7 +8,7 @@ use text::show::list_text;
 
 fn main(rt: HostRuntime) -> io::Result<()> {
     let mut text = Vec::new(rt.alloc());
-    rt.reader().take(32769).read_to_end(&mut text)?;
+    rt.stdin().take(32769).read_to_end(&mut text)?;
     let mut bytes = [0u8; 262144];
     let w = list_text(&text, &mut bytes);
     io::writer(&rt).write_all(&bytes[..w.count])

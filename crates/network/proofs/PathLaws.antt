@@ -4,9 +4,9 @@
 --     sent-none, sent-on                nothing has gone from a node to itself; what went on to a place went on from the place before
 --     clear-spare, clear-rest            the last line of a way with something to spare, and the way before it
 --     clear_kept                        what goes over the last line of a way leaves the way before it as clear as it was
---     Narrow, narrow_start, -step, -end    the least spare on the way, found from its end back to place 0
---     Used, used_start, -spare, -none, -end   the least place of the way whose line has nothing to spare, found from its end back to place 0
---     Going, going_start, -step, -end      what has gone over the lines of the way, from its end back to place 0
+--     Narrow, narrow_start, narrow_step, narrow-end    the least spare on the way, found from its end back to place 0
+--     Used, used_start, used-spare, used-none, used-end   the least place of the way whose line has nothing to spare, found from its end back to place 0
+--     Going, going_start, going_step, going_end      what has gone over the lines of the way, from its end back to place 0
 --     going-kept, kept_full                and what that left of the spares
 -- Assumes nothing.
 use Prim.Native.Nat.{ℕ, ◌+◌, ◌-◌, ◌≤◌, ◌<◌}

@@ -304,7 +304,7 @@ pub fn search(
     rest: usize,
 ) -> Front
     requires laid { Laid firsts.now seconds.now }
-    requires device { d < 128 }
+    requires start_node { d < 128 }
     requires lasts { Lasts firsts.now seconds.now (length firsts.now) last.now }
     requires priors { Priors firsts.now seconds.now (length firsts.now) before_first.now before_second.now }
     requires standing { 1 ≤ count → Standing firsts.now seconds.now forth.now back.now drain.now d node.old via.old from.old mark.old count place rest }

@@ -1,7 +1,7 @@
 -- What `show_plant`, `show_text` and `list_text` write, by what they found on the way.
 --     plant-filled ..     the hierarchy call is not refused, and what it fills is listed
 --     text-..             the text that is read, refused or not
---     list-..             the list that is filled, or too short
+--     list-.., list_count the list that is filled, or too short
 -- Assumes nothing.
 use Prim.Native.Nat.{ℕ, ◌+◌, ◌*◌, ◌≤◌, ◌<◌}
 use native.Mathlib.Nat.{zero-add, mul-le-mul}

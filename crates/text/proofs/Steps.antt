@@ -1,7 +1,7 @@
 -- A word and a number, byte by byte, at a place in a text.
 --     here          the bytes from a place are the byte there and the bytes after it
 --     begins-..     whether a text goes on with what is left of a word
---     run-..        the digits from a place
+--     run-.., run_none the digits from a place
 --     Count         what a loop over digits has read: v is the value of the first k, which are digits
 -- Assumes nothing.
 use Prim.Native.Nat.{ℕ, zero, suc, ◌+◌, ◌*◌, ◌-◌, ◌^◌, ◌≤◌, ◌<◌}

@@ -11,7 +11,7 @@ ready c =
     elim c.if-count-eq0.branch [
       | then-count-eq0 w ↦
           rw (w.node-is, w.mark-is, w.front-is, w.begin-front.ensures.first.0, w.begin-front.ensures.first.1, w.begin-front.ensures.first.2)
-          (ready-begin _ _ _ _ _ _ _ _ _ c.requires.device w.begin-front.ensures.root w.begin-front.ensures.marks _ (c.requires.lasts.last _ c.requires.device) w.begin-front.ensures.dry w.begin-front.ensures.wet)
+          (ready-begin _ _ _ _ _ _ _ _ _ c.requires.start_node w.begin-front.ensures.root w.begin-front.ensures.marks _ (c.requires.lasts.last _ c.requires.start_node) w.begin-front.ensures.dry w.begin-front.ensures.wet)
       | else-count-eq0 w ↦ rw (w.node-is, w.mark-is, w.front-is) (ready-standing (c.requires.standing (omega (arith, w.if-count-eq0.false))))
     ]
 
