@@ -71,7 +71,8 @@ fn check_lines(n: usize, firsts: &[usize], seconds: &[usize], signals: &[usize])
 pub fn check_plant(n: usize, firsts: &[usize], seconds: &[usize], signals: &[usize]) -> Refusal
     ensures { result ≡ plant_fault n firsts.now seconds.now signals.now }
 {
-    if n == 0 {
+    let none = n == 0;
+    if none {
         return Refusal {
             number: 1,
             place: 0,

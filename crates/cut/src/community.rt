@@ -184,7 +184,8 @@ pub fn community(
             out: 0,
         };
     }
-    if marks.len() < n {
+    let short = marks.len() < n;
+    if short {
         return Answer {
             number: 12,
             place: 0,

@@ -88,7 +88,8 @@ impl Rate {
         }
         let here = self.p * other.q;
         let there = other.p * self.q;
-        if here < there {
+        let below = here < there;
+        if below {
             return Compared {
                 number: 0,
                 place: 0,

@@ -51,7 +51,8 @@ fn grouped(text: &[u8], p: usize, q: usize, labels: &mut [u8]) -> Grouping
         Rate { p, q },
         &mut found,
     );
-    if r.number != 0 {
+    let refused = r.number != 0;
+    if refused {
         return r;
     }
     if labels.len() < n {

@@ -29,7 +29,8 @@ pub fn groups_at(
 {
     let mut owner = [0usize; DEVICES];
     let fault = owners(n, firsts, seconds, signals, rate, &mut owner);
-    if fault.number != 0 {
+    let refused = fault.number != 0;
+    if refused {
         return Grouping {
             number: fault.number,
             place: fault.place,

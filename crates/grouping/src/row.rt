@@ -26,7 +26,8 @@ pub fn check_row(labels: &[usize], n: usize, levels: usize, k: usize) -> Refusal
             place: 0,
         };
     }
-    if n < levels {
+    let over = n < levels;
+    if over {
         return Refusal {
             number: 16,
             place: 0,

@@ -67,7 +67,8 @@ fn take_over(
     requires priors { Priors firsts.now seconds.now (length firsts.now) before_first.now before_second.now }
     ensures { (S : Devices) × IsLeast (lines_of firsts.now seconds.now widths.now) (λ v. get_or drains.now v 0) k x S × (owner.new ≡ over (table k (λ v. cond (S v) x (get_or owner.old v 0))) owner.old) }
 {
-    if last[x] == 0 {
+    let alone = last[x] == 0;
+    if alone {
         put(owner, x, x);
         return;
     }

@@ -7,7 +7,7 @@
 --     Placed      words written one after the other, and the digits of a number
 --     Wrote       fields, rows and texts written word by word, and how many bytes they take
 --     Answers     what writing answers and fills
---     ListingLaws pieces of a listing written one after the other, and the heads of a level counted
+--     ListingLaws pieces of a text or a listing written one after the other, and the heads of a level counted
 --     NumberLaws  numbers that are written read back, and those that are read are written so
 --     LineLaws    fields and rows likewise
 --     TextLaws    rows and whole texts likewise

@@ -1,4 +1,4 @@
--- Words and pieces of a listing written one after the other, and the heads of a level counted.
+-- Words and pieces of a text or a listing written one after the other, and the heads of a level counted.
 --     Left        what was written of the words of a text: those before the words that are left
 --     Pieces      what a loop over indices has written: the pieces before those that are left
 --     Heads       what a loop over devices has counted: the heads before those that are left

@@ -86,7 +86,8 @@ fn number_at(text: &[u8], at: usize) -> Number
     if d.used == 1 {
         return d;
     }
-    if text[at] == 48 {
+    let zero = text[at] == 48;
+    if zero {
         return none();
     }
     d

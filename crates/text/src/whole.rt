@@ -31,7 +31,8 @@ fn end_fault(text: &[u8], at: usize, k: usize) -> usize
     if !lines::goes_on(text, at, b"end=plant\n") {
         return k;
     }
-    if text.len() - at == 10 {
+    let whole = text.len() - at == 10;
+    if whole {
         return 0;
     }
     k + 1

@@ -49,18 +49,18 @@ slice_bounds-groups_at-end-3 c =
     let s = stated (reading c.read_plant-plant.ensures) c.if-plant-ne0.false in
     sym (as_many s s.signals (values_length _ _))
 
-pub returns-then-r-ne0 : goal.returns-then-r-ne0
-returns-then-r-ne0 c =
+pub returns-then-refused : goal.returns-then-refused
+returns-then-refused c =
     let s = stated (reading c.read_plant-plant.ensures) c.if-plant-ne0.false in
     let f = found_in s (replicate 128 0) refl (c.groups_at-r.ensures.answer, c.groups_at-r.ensures.labels_filled) in
-    let told = rate-refused c.args.text.now c.args.p c.args.q c.args.labels.now s.right f c.if-r-ne0.true in
+    let told = rate-refused c.args.text.now c.args.p c.args.q c.args.labels.now s.right f c.if-refused.true in
     record { answer = told.0; labels_filled = told.1 }
 
 pub returns-then-labels-n : goal.returns-then-labels-n
 returns-then-labels-n c =
     let s = stated (reading c.read_plant-plant.ensures) c.if-plant-ne0.false in
     let f = found_in s (replicate 128 0) refl (c.groups_at-r.ensures.answer, c.groups_at-r.ensures.labels_filled) in
-    let told = too_short c.args.text.now c.args.p c.args.q c.args.labels.now s.right f c.if-r-ne0.false (rw s.devices at c.if-labels-n.true) in
+    let told = too_short c.args.text.now c.args.p c.args.q c.args.labels.now s.right f c.if-refused.false (rw s.devices at c.if-labels-n.true) in
     record { answer = told.0; labels_filled = told.1 }
 
 pub put_labels-requires : goal.put_labels-requires
@@ -68,11 +68,11 @@ put_labels-requires c =
     let s = stated (reading c.read_plant-plant.ensures) c.if-plant-ne0.false in
     let f = found_in s (replicate 128 0) refl (c.groups_at-r.ensures.answer, c.groups_at-r.ensures.labels_filled) in
     rw s.devices
-    (few _ s.right, rw s.devices at c.if-labels-n.false, found-devices _ _ _ c.args.labels.now s.right f c.if-r-ne0.false)
+    (few _ s.right, rw s.devices at c.if-labels-n.false, found-devices _ _ _ c.args.labels.now s.right f c.if-refused.false)
 
 pub returns : goal.returns
 returns c =
     let s = stated (reading c.read_plant-plant.ensures) c.if-plant-ne0.false in
     let f = found_in s (replicate 128 0) refl (c.groups_at-r.ensures.answer, c.groups_at-r.ensures.labels_filled) in
-    let told = answered c.args.text.now c.args.p c.args.q c.args.labels.now s.right f c.if-r-ne0.false (rw s.devices at c.if-labels-n.false) (rw s.devices at c.put_labels.ensures) in
+    let told = answered c.args.text.now c.args.p c.args.q c.args.labels.now s.right f c.if-refused.false (rw s.devices at c.if-labels-n.false) (rw s.devices at c.put_labels.ensures) in
     record { answer = told.0; labels_filled = told.1 }

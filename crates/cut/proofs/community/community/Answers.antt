@@ -41,17 +41,17 @@ returns-then-n-device-clause-marks_filled c =
     let on = sym c.accepted.ensures ∙ c.if-not-accepted.false in
     let fault = community-10 _ _ _ _ _ _ _ _ good on c.if-n-device.true in community-kept _ _ _ _ _ _ _ _ (at 10 0) fault (suc-ne-zero 9)
 
-pub returns-then-marks-n-clause-answer : goal.returns-then-marks-n-clause-answer
-returns-then-marks-n-clause-answer c =
+pub returns-then-short-clause-answer : goal.returns-then-short-clause-answer
+returns-then-short-clause-answer c =
     let good = same-zero c.check_plant-plant.ensures c.if-plant-ne0.false in
     let on = sym c.accepted.ensures ∙ c.if-not-accepted.false in
-    let fault = community-12 _ _ _ _ _ _ _ _ good on c.if-n-device.false c.if-marks-n.true in community-refused _ _ _ _ _ _ _ _ (at 12 0) fault (suc-ne-zero 11)
+    let fault = community-12 _ _ _ _ _ _ _ _ good on c.if-n-device.false c.if-short.true in community-refused _ _ _ _ _ _ _ _ (at 12 0) fault (suc-ne-zero 11)
 
-pub returns-then-marks-n-clause-marks_filled : goal.returns-then-marks-n-clause-marks_filled
-returns-then-marks-n-clause-marks_filled c =
+pub returns-then-short-clause-marks_filled : goal.returns-then-short-clause-marks_filled
+returns-then-short-clause-marks_filled c =
     let good = same-zero c.check_plant-plant.ensures c.if-plant-ne0.false in
     let on = sym c.accepted.ensures ∙ c.if-not-accepted.false in
-    let fault = community-12 _ _ _ _ _ _ _ _ good on c.if-n-device.false c.if-marks-n.true in community-kept _ _ _ _ _ _ _ _ (at 12 0) fault (suc-ne-zero 11)
+    let fault = community-12 _ _ _ _ _ _ _ _ good on c.if-n-device.false c.if-short.true in community-kept _ _ _ _ _ _ _ _ (at 12 0) fault (suc-ne-zero 11)
 
 pub fill_community-requires-clause-accepted : goal.fill_community-requires-clause-accepted
 fill_community-requires-clause-accepted c =
@@ -61,10 +61,10 @@ pub returns-clause-answer : goal.returns-clause-answer
 returns-clause-answer c =
     let good = same-zero c.check_plant-plant.ensures c.if-plant-ne0.false in
     let on = sym c.accepted.ensures ∙ c.if-not-accepted.false in
-    let fault = community-0 _ _ _ _ _ _ _ _ good on c.if-n-device.false c.if-marks-n.false in c.fill_community.ensures.answer ∙ sym (community-answered _ _ _ _ _ _ _ _ fault)
+    let fault = community-0 _ _ _ _ _ _ _ _ good on c.if-n-device.false c.if-short.false in c.fill_community.ensures.answer ∙ sym (community-answered _ _ _ _ _ _ _ _ fault)
 
 pub returns-clause-marks_filled : goal.returns-clause-marks_filled
 returns-clause-marks_filled c =
     let good = same-zero c.check_plant-plant.ensures c.if-plant-ne0.false in
     let on = sym c.accepted.ensures ∙ c.if-not-accepted.false in
-    let fault = community-0 _ _ _ _ _ _ _ _ good on c.if-n-device.false c.if-marks-n.false in c.fill_community.ensures.marks_filled ∙ sym (community-filled _ _ _ _ _ _ _ _ fault)
+    let fault = community-0 _ _ _ _ _ _ _ _ good on c.if-n-device.false c.if-short.false in c.fill_community.ensures.marks_filled ∙ sym (community-filled _ _ _ _ _ _ _ _ fault)

@@ -14,12 +14,12 @@ returns-then-n-gt-DEVICES c = sym (row-2 _ _ _ _ c.if-n-gt-DEVICES.true)
 pub returns-then-levels-k : goal.returns-then-levels-k
 returns-then-levels-k c = sym (row-past _ _ _ _ (omega arith) c.if-n-gt-DEVICES.false c.if-levels-k.true)
 
-pub returns-then-n-levels : goal.returns-then-n-levels
-returns-then-n-levels c = sym (row-over _ _ _ _ (omega arith) c.if-n-gt-DEVICES.false c.if-levels-k.false c.if-n-levels.true)
+pub returns-then-over : goal.returns-then-over
+returns-then-over c = sym (row-over _ _ _ _ (omega arith) c.if-n-gt-DEVICES.false c.if-levels-k.false c.if-over.true)
 
 pub returns-then-labels-levels : goal.returns-then-labels-levels
-returns-then-labels-levels c = sym (row-12 _ _ _ _ (omega arith) c.if-n-gt-DEVICES.false c.if-levels-k.false c.if-n-levels.false c.if-labels-levels.true)
+returns-then-labels-levels c = sym (row-12 _ _ _ _ (omega arith) c.if-n-gt-DEVICES.false c.if-levels-k.false c.if-over.false c.if-labels-levels.true)
 
 pub returns : goal.returns
 unfolding done
-returns c = sym (row_done _ _ _ _ (omega arith) c.if-n-gt-DEVICES.false c.if-levels-k.false c.if-n-levels.false c.if-labels-levels.false)
+returns c = sym (row_done _ _ _ _ (omega arith) c.if-n-gt-DEVICES.false c.if-levels-k.false c.if-over.false c.if-labels-levels.false)

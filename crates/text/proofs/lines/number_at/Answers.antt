@@ -13,10 +13,10 @@ returns-then-d-eq1 c = number-one c.args.text.now c.args.at c.digits_at-d.ensure
 pub bounds-text-at : goal.bounds-text-at
 bounds-text-at c = number-place c.args.text.now c.args.at c.digits_at-d.ensures c.if-d-eq0.false
 
-pub returns-then-text-at-eq48 : goal.returns-then-text-at-eq48
-returns-then-text-at-eq48 c =
-    c.none-then-text-at-eq48.ensures ∙ number-zero c.args.text.now c.args.at c.digits_at-d.ensures c.if-d-eq0.false c.if-d-eq1.false c.if-text-at-eq48.true
+pub returns-then-zero : goal.returns-then-zero
+returns-then-zero c =
+    c.none-then-zero.ensures ∙ number-zero c.args.text.now c.args.at c.digits_at-d.ensures c.if-d-eq0.false c.if-d-eq1.false c.if-zero.true
 
 pub returns : goal.returns
 returns c =
-    number_more c.args.text.now c.args.at c.digits_at-d.ensures c.if-d-eq0.false c.if-d-eq1.false c.if-text-at-eq48.false
+    number_more c.args.text.now c.args.at c.digits_at-d.ensures c.if-d-eq0.false c.if-d-eq1.false c.if-zero.false

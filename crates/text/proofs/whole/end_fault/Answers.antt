@@ -6,9 +6,9 @@ use Rattle.text.proofs.whole.end_fault.Goals as goal
 pub returns-then-not-goes_on : goal.returns-then-not-goes_on
 returns-then-not-goes_on c = end_none c.args.text.now c.args.at c.args.k c.goes_on.ensures c.if-not-goes_on.true
 
-pub returns-then-text-at-eq10 : goal.returns-then-text-at-eq10
-returns-then-text-at-eq10 c =
-    end-all c.args.text.now c.args.at c.args.k c.goes_on.ensures c.if-not-goes_on.false c.if-text-at-eq10.true
+pub returns-then-whole : goal.returns-then-whole
+returns-then-whole c =
+    end-all c.args.text.now c.args.at c.args.k c.goes_on.ensures c.if-not-goes_on.false c.if-whole.true
 
 pub returns : goal.returns
-returns c = end_more c.args.text.now c.args.at c.args.k c.goes_on.ensures c.if-not-goes_on.false c.if-text-at-eq10.false
+returns c = end_more c.args.text.now c.args.at c.args.k c.goes_on.ensures c.if-not-goes_on.false c.if-whole.false

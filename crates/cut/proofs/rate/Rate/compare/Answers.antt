@@ -22,14 +22,14 @@ overflow_mul-here c = record { fits = lt_of_le_of_lt (cross-most _ _ _ _ (sym c.
 pub overflow_mul-there : goal.overflow_mul-there
 overflow_mul-there c = record { fits = lt_of_le_of_lt (cross-most _ _ _ _ (sym c.accepted-2.ensures ∙ c.if-not-accepted-2.false) (sym c.accepted.ensures ∙ c.if-not-accepted.false)) (lit< tt) }
 
+pub returns-then-below : goal.returns-then-below
+unfolding compared order
+returns-then-below c = simp ((sym c.accepted.ensures ∙ c.if-not-accepted.false), (sym c.accepted-2.ensures ∙ c.if-not-accepted-2.false), lt-ltb _ _ c.if-below.true)
+
 pub returns-then-here-there : goal.returns-then-here-there
 unfolding compared order
-returns-then-here-there c = simp ((sym c.accepted.ensures ∙ c.if-not-accepted.false), (sym c.accepted-2.ensures ∙ c.if-not-accepted-2.false), lt-ltb _ _ c.if-here-there.true)
-
-pub returns-then-here-there-2 : goal.returns-then-here-there-2
-unfolding compared order
-returns-then-here-there-2 c = simp ((sym c.accepted.ensures ∙ c.if-not-accepted.false), (sym c.accepted-2.ensures ∙ c.if-not-accepted-2.false), le-ltb _ _ c.if-here-there.false, eq-eqb _ _ c.if-here-there-2.true)
+returns-then-here-there c = simp ((sym c.accepted.ensures ∙ c.if-not-accepted.false), (sym c.accepted-2.ensures ∙ c.if-not-accepted-2.false), le-ltb _ _ c.if-below.false, eq-eqb _ _ c.if-here-there.true)
 
 pub returns : goal.returns
 unfolding compared order
-returns c = simp ((sym c.accepted.ensures ∙ c.if-not-accepted.false), (sym c.accepted-2.ensures ∙ c.if-not-accepted-2.false), le-ltb _ _ c.if-here-there.false, ne_eqb _ _ c.if-here-there-2.false)
+returns c = simp ((sym c.accepted.ensures ∙ c.if-not-accepted.false), (sym c.accepted-2.ensures ∙ c.if-not-accepted-2.false), le-ltb _ _ c.if-below.false, ne_eqb _ _ c.if-here-there.false)
