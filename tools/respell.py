@@ -8,7 +8,7 @@ usage: python3 tools/respell.py [--print]      at the top of the repository, onc
 - a dash in a lemma's name joins two names and stays.
 
 It goes over crates/*/specs, crates/*/proofs, the clauses and imports of crates/*/src, and crates/*/must-fail. Types, modules, functions of
-src/, strings, inputs and outputs keep their names: a name that a function of src/ has is never a new one.
+src/, strings, inputs and outputs keep their names; a definition never gets the name of a function that cites it.
 """
 import glob
 import os
