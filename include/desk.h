@@ -64,7 +64,7 @@ enum desk_refusal {
  * Threads: the function has no state of its own. It may be called from any thread, and from several at once if each has its own labels,
  * place and groups.
  *
- * Stack: a call takes 74,376 bytes of the caller's stack, and no heap; the first call in a program may take some 3,000 more, where the
+ * Stack: a call takes 83,384 bytes of the caller's stack, and no heap; the first call in a program may take some 3,000 more, where the
  * loader looks up memcpy and memset in it. Measured with the archive of this repository: a thread's stack was filled with one byte before
  * the call, and after it the lowest byte that had changed was looked for, with plants of 128 devices and 1,024 lines, the example plant
  * and refused calls. No call went deeper. Give a thread that calls it 128 KiB.

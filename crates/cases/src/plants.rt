@@ -1,82 +1,195 @@
-// Plants made by a rule, in lists that the caller lends.
+// Plants in lists of their own: written out in a case, or made by a rule.
+ghost use Rattle.std.specs.Prelude.{◌<◌};
 
-// The two ends of a line.
+use crate::row::{Numbers, front};
+use rules::Fault;
+use std::iter;
+use text::Size;
+use text::read::read_plant;
+
+// A plant as the calls take it, wrong ones too: the devices, and the two ends and the signals of each line.
 #[derive(Clone, Copy)]
-struct Ends {
+pub struct Plant<'a> {
+    pub devices: usize,
+    pub firsts: &'a [usize],
+    pub seconds: &'a [usize],
+    pub signals: &'a [usize],
+}
+
+// A plant with room for N lines. Of each list as many entries count as `lengths` says, in the order of the lists: a case may state three
+// lengths that differ.
+#[derive(Clone, Copy)]
+pub struct Lists<const N: usize> {
+    pub devices: usize,
+    pub lengths: [usize; 3],
+    pub firsts: [usize; N],
+    pub seconds: [usize; N],
+    pub signals: [usize; N],
+}
+
+// The lists of a plant that is written out in a case.
+pub type Short = Lists<16>;
+
+// The lists of a plant made by a rule, with room for one line more than a plant may have.
+pub type Large = Lists<1025>;
+
+impl<const N: usize> Lists<N> {
+    // No devices, and lists all of whose entries are a number.
+    pub fn filled(entry: usize) -> Self {
+        Lists {
+            devices: 0,
+            lengths: [N; 3],
+            firsts: [entry; N],
+            seconds: [entry; N],
+            signals: [entry; N],
+        }
+    }
+
+    // Lists with lines at their front, as many as there is room for, and 0 after them.
+    fn of<I: Iterator<Item = Line> + Drop>(devices: usize, lines: I) -> Self
+        requires { I.can_next lines }
+    {
+        let mut lists = Lists::filled(0);
+        lists.devices = devices;
+        let ends = lists.firsts.iter_mut().zip(&mut lists.seconds);
+        for (((first, second), signals), line) in ends.zip(&mut lists.signals).zip(lines) {
+            *first = line.a;
+            *second = line.b;
+            *signals = line.signals;
+        }
+        lists
+    }
+
+    // The plant that a case has from a number on: the devices, and then the two ends and the signals of each line.
+    // Where the case ends before that number, all N lines count.
+    pub fn written(numbers: &Numbers, from: usize) -> Self
+        requires { from < 64 }
+    {
+        let (rows, _) = numbers.tail(from + 1).as_chunks::<3>();
+        let lines = rows.iter().map(|&[a, b, signals]| Line { a, b, signals });
+        let mut lists = Lists::of(numbers.at(from), lines);
+        lists.lengths = [numbers.count_from(from).map_or(N, |count| count / 3); 3];
+        lists
+    }
+
+    // The plant that a case states from a number on: the reach and the devices of a rule, the lengths of the three lists, and the
+    // signals of the first line. Whether they fall does not stand there in each kind of case.
+    pub fn stated(numbers: &Numbers, from: usize, fall: usize) -> Self
+        requires { from < 59 }
+    {
+        let mut lists = Lists::made(Rule {
+            shape: Shape::from(numbers.at(from)),
+            devices: numbers.at(from + 1),
+            signals: numbers.at(from + 5),
+            fall,
+        });
+        lists.lengths = [
+            numbers.at(from + 2),
+            numbers.at(from + 3),
+            numbers.at(from + 4),
+        ];
+        lists
+    }
+
+    // Lines by a rule until the lists are full, in rising order.
+    pub fn made(rule: Rule) -> Self {
+        let first = Line {
+            a: 0,
+            b: 1,
+            signals: rule.signals,
+        };
+        Lists::of(
+            rule.devices,
+            iter::successors(Some(first), |line| Some(rule.after(*line))),
+        )
+    }
+
+    // Reads a plant text into the lists.
+    pub fn read(&mut self, text: &[u8]) -> Result<Size, Fault> {
+        let r = read_plant(text, &mut self.firsts, &mut self.seconds, &mut self.signals);
+        let (devices, lines) = r.map_or((0, 0), |size| (size.devices, size.lines));
+        self.devices = devices;
+        self.lengths = [lines; 3];
+        r
+    }
+
+    pub fn plant(&self) -> Plant<'_> {
+        let [firsts, seconds, signals] = self.lengths;
+        Plant {
+            devices: self.devices,
+            firsts: front(&self.firsts, firsts),
+            seconds: front(&self.seconds, seconds),
+            signals: front(&self.signals, signals),
+        }
+    }
+}
+
+// The two ends and the signals of a line.
+#[derive(Clone, Copy)]
+struct Line {
     a: usize,
     b: usize,
+    signals: usize,
 }
 
-// One more, of a number of a device.
-fn above(v: usize) -> usize {
-    if v < 1024 { v + 1 } else { v }
+// To which devices a rule's lines go.
+#[derive(Clone, Copy, Debug, PartialEq, Eq)]
+pub enum Shape {
+    // 0-1, 0 and the last device, 1-2, 2-3, and so on
+    Ring,
+    // from each device to those at most so many above it
+    Band(usize),
 }
 
-// One less, of a number that is not 0.
-pub fn below(v: usize) -> usize {
-    if 0 < v { v - 1 } else { v }
-}
-
-// The line after this one, where each device has lines to those at most `reach` above it.
-fn next_in_band(n: usize, reach: usize, e: Ends) -> Ends {
-    let b = above(e.b);
-    let a = above(e.a);
-    if e.a <= e.b && e.b - e.a < reach && b < n {
-        return Ends { a: e.a, b };
-    }
-    Ends { a, b: above(a) }
-}
-
-// The line after this one in a ring: 0-1, 0 and the last device, 1-2, 2-3, and so on.
-fn next_in_ring(n: usize, e: Ends) -> Ends {
-    if e.b == 1 {
-        return Ends { a: 0, b: below(n) };
-    }
-    let a = above(e.a);
-    Ends { a, b: above(a) }
-}
-
-// The next line; a reach of 0 stands for the ring.
-fn next_line(n: usize, reach: usize, e: Ends) -> Ends {
-    if reach == 0 {
-        return next_in_ring(n, e);
-    }
-    next_in_band(n, reach, e)
-}
-
-// Entry i of a list, where there is one.
-fn put(list: &mut [usize], i: usize, x: usize) {
-    if i < list.len() {
-        list[i] = x;
+// In a case a reach of 0 stands for the ring.
+impl From<usize> for Shape {
+    fn from(reach: usize) -> Self {
+        match reach {
+            0 => Shape::Ring,
+            _ => Shape::Band(reach),
+        }
     }
 }
 
-// The signals of the next line: less by a number, as long as some are left.
-fn next_signals(carried: usize, fall: usize) -> usize {
-    if fall < carried {
-        carried - fall
-    } else {
-        carried
+// A rule for the lines of a plant. The first one carries so many signals, and each next one less by `fall`, as long as some are left.
+#[derive(Clone, Copy)]
+pub struct Rule {
+    pub shape: Shape,
+    pub devices: usize,
+    pub signals: usize,
+    pub fall: usize,
+}
+
+impl Rule {
+    // Lines on 128 devices that break no rule, one signal each.
+    pub const FULL: Rule = Rule {
+        shape: Shape::Band(9),
+        devices: 128,
+        signals: 1,
+        fall: 0,
+    };
+
+    // The line after a line.
+    fn after(self, line: Line) -> Line {
+        let Line { a, b, signals } = line;
+        let (a, b) = match self.shape {
+            Shape::Ring if b == 1 => (0, self.devices.saturating_sub(1)),
+            Shape::Band(reach) if b.saturating_sub(a) < reach && above(b) < self.devices => (
+                a,
+                above(b),
+            ),
+            _ => (above(a), above(above(a))),
+        };
+        let signals = if self.fall < signals {
+            signals - self.fall
+        } else {
+            signals
+        };
+        Line { a, b, signals }
     }
 }
 
-// Lines on n devices in rising order, until the lists are full: from each device to those at most `reach` above it, or, for a reach of 0, round a ring. The first line carries so many signals, and each next one less by `fall`.
-pub fn fill(
-    n: usize,
-    reach: usize,
-    carried: usize,
-    fall: usize,
-    firsts: &mut [usize],
-    seconds: &mut [usize],
-    signals: &mut [usize],
-) {
-    let mut e = Ends { a: 0, b: 1 };
-    let mut s = carried;
-    for i in 0..1025 {
-        put(firsts, i, e.a);
-        put(seconds, i, e.b);
-        put(signals, i, s);
-        e = next_line(n, reach, e);
-        s = next_signals(s, fall);
-    }
+// The device after a device.
+fn above(device: usize) -> usize {
+    device.saturating_add(1)
 }

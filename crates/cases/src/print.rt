@@ -1,189 +1,121 @@
-// The lines of the output: the case, its answer as key=value, and whether it is the expected one. Each function prints
-// to `out`.
-use itoa::Buffer;
-use std::io;
+// The rows of the output: the case, its answer as key=value, and whether it is the expected one.
+use rules::Fault;
 use std::io::Write;
+use std::{fmt, io};
 
 // How many cases were run, and how many of them did not answer as expected.
-#[derive(Clone, Copy)]
+#[derive(Clone, Copy, Default)]
 pub struct Tally {
-    pub cases: u64,
-    pub wrong: u64,
+    cases: u64,
+    wrong: u64,
 }
 
-// How far a printed answer was held against the expected one, and whether they agree so far.
+impl Tally {
+    // One more case.
+    pub fn count(&mut self, right: bool) {
+        self.cases = self.cases.wrapping_add(1);
+        self.wrong = self.wrong.wrapping_add(u64::from(!right));
+    }
+}
+
+impl fmt::Display for Tally {
+    fn fmt<W: fmt::Write>(&self, f: &mut fmt::Formatter<W>) -> fmt::Result {
+        write!(f, "cases={} wrong={}", self.cases, self.wrong)
+    }
+}
+
+// The entries of a list, with a comma between two.
 #[derive(Clone, Copy)]
-pub struct Line {
-    pub at: usize,
-    pub same: bool,
-}
+pub struct Entries<'a, T>(pub &'a [T]);
 
-pub fn text<W: Write>(out: &mut W, bytes: &[u8]) -> io::Result<()> {
-    out.write_all(bytes)
-}
-
-// A number in decimal digits.
-fn number<W: Write>(out: &mut W, x: u64) -> io::Result<()> {
-    let mut digits = Buffer::new();
-    text(out, digits.format(x).as_bytes())
-}
-
-// One more byte of an answer, held against the expected one.
-fn hold(line: Line, expected: &[u8], byte: u8) -> Line {
-    let at = line.at;
-    if at < expected.len() {
-        if expected[at] == byte {
-            return Line {
-                at: at + 1,
-                same: line.same,
-            };
+impl<T: fmt::Display> fmt::Display for Entries<'_, T> {
+    fn fmt<W: fmt::Write>(&self, f: &mut fmt::Formatter<W>) -> fmt::Result {
+        for (i, x) in self.0.iter().enumerate() {
+            if i != 0 {
+                f.write_str(",")?;
+            }
+            x.fmt(f)?;
         }
+        Ok(())
     }
-    Line { at, same: false }
 }
 
-// Prints a part of an answer.
-pub fn say<W: Write>(out: &mut W, line: Line, expected: &[u8], bytes: &[u8]) -> io::Result<Line> {
-    text(out, bytes)?;
-    let mut line = line;
-    for x in bytes {
-        line = hold(line, expected, *x);
+// An answer that is being printed. What is written to it goes to `out`, and is held against the expected answer:
+// `left` is what has still to come of that, and None once they differ.
+#[derive(Drop)]
+pub struct Answer<'a, W> {
+    out: &'a mut W,
+    expected: &'a [u8],
+    left: Option<&'a [u8]>,
+}
+
+impl<W: Write> Write for Answer<'_, W> {
+    fn write(&mut self, bytes: &[u8]) -> io::Result<usize> {
+        let count = self.out.write(bytes)?;
+        let written = &bytes[..count];
+        self.left = match self.left {
+            Some(left) if left.starts_with(written) => Some(&left[count..]),
+            _ => None,
+        };
+        Ok(count)
     }
-    Ok(line)
-}
 
-// A number after its key, which comes with what sets it off.
-pub fn value<W: Write>(
-    out: &mut W,
-    line: Line,
-    expected: &[u8],
-    key: &[u8],
-    x: usize,
-) -> io::Result<Line> {
-    let line = say(out, line, expected, key)?;
-    let mut digits = Buffer::new();
-    say(out, line, expected, digits.format(x).as_bytes())
-}
-
-// The number and the place, with which every answer begins.
-pub fn refusal<W: Write>(
-    out: &mut W,
-    expected: &[u8],
-    number: usize,
-    place: usize,
-) -> io::Result<Line> {
-    let line = value(
-        out,
-        Line { at: 0, same: true },
-        expected,
-        b"number=",
-        number,
-    )?;
-    value(out, line, expected, b" place=", place)
-}
-
-// An entry of a list: a comma stands before each but the first.
-pub fn entry<W: Write>(
-    out: &mut W,
-    line: Line,
-    expected: &[u8],
-    i: usize,
-    x: usize,
-) -> io::Result<Line> {
-    if i == 0 {
-        return value(out, line, expected, b"", x);
+    fn flush(&mut self) -> io::Result<()> {
+        self.out.flush()
     }
-    value(out, line, expected, b",", x)
 }
 
-// The entries of a list after a key.
-pub fn list<W: Write>(
-    out: &mut W,
-    line: Line,
-    expected: &[u8],
-    key: &[u8],
-    entries: &[usize],
-) -> io::Result<Line> {
-    let mut line = say(out, line, expected, key)?;
-    for (i, x) in entries.iter().enumerate() {
-        line = entry(out, line, expected, i, *x)?;
+impl<'a, W: Write> Answer<'a, W> {
+    // The answer to a case, which is printed before it.
+    pub fn begin(out: &'a mut W, case: &[u8], expected: &'a [u8]) -> io::Result<Self> {
+        out.write_all(b"case=")?;
+        out.write_all(case)?;
+        out.write_all(b": ")?;
+        Ok(Answer {
+            out,
+            expected,
+            left: Some(expected),
+        })
     }
-    Ok(line)
-}
 
-// A byte as a number.
-fn wide(x: u8) -> usize {
-    x as usize
-}
-
-// Marks after a key.
-pub fn marks<W: Write>(
-    out: &mut W,
-    line: Line,
-    expected: &[u8],
-    key: &[u8],
-    entries: &[u8],
-) -> io::Result<Line> {
-    let mut line = say(out, line, expected, key)?;
-    for (i, x) in entries.iter().enumerate() {
-        line = entry(out, line, expected, i, wide(*x))?;
+    // The number and the place, with which most answers begin: 0 and 0 of a call that is done.
+    pub fn refusal<T>(&mut self, answered: &Result<T, Fault>) -> io::Result<()> {
+        let (number, place) = match answered {
+            Ok(_) => (0, 0),
+            Err(fault) => (fault.number(), fault.place()),
+        };
+        write!(self, "number={number} place={place}")
     }
-    Ok(line)
-}
 
-// A byte as it stands in a row: | for a newline.
-fn byte<W: Write>(out: &mut W, line: Line, expected: &[u8], x: u8) -> io::Result<Line> {
-    if x == b'\n' {
-        return say(out, line, expected, b"|");
+    // Bytes as they stand in a row: | for a newline.
+    pub fn text(&mut self, bytes: &[u8]) -> io::Result<()> {
+        for x in bytes {
+            let shown = if *x == b'\n' { b'|' } else { *x };
+            self.write_all(&[shown])?;
+        }
+        Ok(())
     }
-    say(out, line, expected, &[x])
-}
 
-// Bytes after a key.
-pub fn bytes<W: Write>(
-    out: &mut W,
-    line: Line,
-    expected: &[u8],
-    key: &[u8],
-    list: &[u8],
-) -> io::Result<Line> {
-    let mut line = say(out, line, expected, key)?;
-    for x in list {
-        line = byte(out, line, expected, *x)?;
+    // A case whose first words are not known has no answer.
+    pub fn unknown(&mut self) -> io::Result<()> {
+        self.left = None;
+        self.out.write_all(b"unknown")
     }
-    Ok(line)
-}
 
-// A case whose first word is not known.
-pub fn unknown<W: Write>(out: &mut W) -> io::Result<Line> {
-    text(out, b"unknown")?;
-    Ok(Line { at: 0, same: false })
-}
-
-// The end of a case's line, and the count of the case.
-pub fn verdict<W: Write>(out: &mut W, t: Tally, line: Line, expected: &[u8]) -> io::Result<Tally> {
-    let cases = t.cases.wrapping_add(1);
-    if line.same && line.at == expected.len() {
-        text(out, b" ok\n")?;
-        return Ok(Tally {
-            cases,
-            wrong: t.wrong,
-        });
+    // The end of a case's row, and whether the answer is the expected one.
+    pub fn verdict(self) -> io::Result<bool> {
+        let Answer {
+            out,
+            expected,
+            left,
+        } = self;
+        if let Some([]) = left {
+            out.write_all(b" ok\n")?;
+            return Ok(true);
+        }
+        out.write_all(b" wrong, expected ")?;
+        out.write_all(expected)?;
+        out.write_all(b"\n")?;
+        Ok(false)
     }
-    text(out, b" wrong, expected ")?;
-    text(out, expected)?;
-    text(out, b"\n")?;
-    Ok(Tally {
-        cases,
-        wrong: t.wrong.wrapping_add(1),
-    })
-}
-
-// The last line.
-pub fn total<W: Write>(out: &mut W, t: Tally) -> io::Result<()> {
-    text(out, b"cases=")?;
-    number(out, t.cases)?;
-    text(out, b" wrong=")?;
-    number(out, t.wrong)?;
-    text(out, b"\n")
 }

@@ -1,29 +1,43 @@
 // Comparison and reduction of rates.
-use crate::print::Line;
-use crate::{print, row};
+ghost use Rattle.std.specs.Prelude.{◌<◌};
+
+use crate::print::Answer;
+use crate::row::Numbers;
 use cut::rate::Rate;
+use rules::Fault;
+use std::cmp::Ordering;
 use std::io;
 use std::io::Write;
 
-// The rate that a list has from a number on.
-pub fn rate_at(list: &[usize; 64], from: usize) -> Rate {
+// The rate that a case has from a number on.
+pub fn rate_at(numbers: &Numbers, from: usize) -> Rate
+    requires { from < 64 }
+{
     Rate {
-        p: row::entry(list, from),
-        q: row::entry(list, from.wrapping_add(1)),
+        p: numbers.at(from),
+        q: numbers.at(from + 1),
     }
 }
 
-pub fn compare<W: Write>(out: &mut W, list: &[usize; 64], expected: &[u8]) -> io::Result<Line> {
-    let first = rate_at(list, 0);
-    let r = first.compare(rate_at(list, 2));
-    let line = print::refusal(out, expected, r.number, r.place)?;
-    print::value(out, line, expected, b" order=", r.order)
+// A rate that a call answers, 0/0 after a refusal.
+pub fn told<W: Write>(answer: &mut Answer<W>, r: Result<Rate, Fault>) -> io::Result<()> {
+    answer.refusal(&r)?;
+    let rate = r.unwrap_or(Rate { p: 0, q: 0 });
+    write!(answer, " rate={}/{}", rate.p, rate.q)
 }
 
-pub fn reduce<W: Write>(out: &mut W, list: &[usize; 64], expected: &[u8]) -> io::Result<Line> {
-    let rate = rate_at(list, 0);
-    let r = rate.reduce();
-    let line = print::refusal(out, expected, r.number, r.place)?;
-    let line = print::value(out, line, expected, b" rate=", r.p)?;
-    print::value(out, line, expected, b"/", r.q)
+pub fn compare<W: Write>(answer: &mut Answer<W>, numbers: &Numbers) -> io::Result<()> {
+    let r = rate_at(numbers, 0).compare(rate_at(numbers, 2));
+    answer.refusal(&r)?;
+    let order = match r {
+        Ok(Ordering::Less) => 1,
+        Ok(Ordering::Equal) => 2,
+        Ok(Ordering::Greater) => 3,
+        Err(_) => 0,
+    };
+    write!(answer, " order={order}")
+}
+
+pub fn reduce<W: Write>(answer: &mut Answer<W>, numbers: &Numbers) -> io::Result<()> {
+    told(answer, rate_at(numbers, 0).reduce())
 }

@@ -3,13 +3,12 @@
 use Prim.Native.Nat.{ℕ, ◌≤◌, ◌<◌}
 use mathlib.Core.Path.{◌≡◌, refl, sym, ap, subst, ◌∙◌}
 use mathlib.Core.Bool.{Bool, true, false, cond}
-use mathlib.Core.List.{List, [], ◌∷◌}
+use mathlib.Core.List.{List, [], ◌∷◌, ◌++◌}
 use native.Mathlib.Nat.{le_refl}
 use native.Mathlib.Omega.{arith}
 use borrow.Author.Tests.{eq-eqb, ne_eqb, le-leb, lt-leb, le-ltb, lt-ltb}
 use lib.Dec.{eqb, lit≤}
-use lib.ListN.{length, get_or, set, replicate}
-use Rattle.rules.specs.declared.Refusal.{Refusal}
+use lib.ListN.{length, get_or, set, take, drop, replicate}
 use Rattle.rules.specs.Plant.{plant_of}
 use Rattle.rules.specs.Accepted.{Accepted}
 use Rattle.rules.specs.Cut.{Devices, size, out}
@@ -21,12 +20,15 @@ use Rattle.rules.specs.Refusals.{done, cause, or_else, first_of, rate_fault, dev
 use Rattle.rules.proofs.RefusalLaws.{done_next, call-is, call-plant, call-rest}
 use Rattle.rules.proofs.Instance.{sweep-agree}
 use Rattle.rules.proofs.SweepLaws.{sweep-only}
-use Rattle.cut.specs.declared.community.Answer.{Answer}
 use Rattle.rules.specs.Numbers.{sum}
 use Rattle.rules.specs.Lists.{over}
-use Rattle.cut.specs.Calls.{marks_of, community_fault, community_answer, community_marks, owners_fault, owners_of, owners_after}
+use Rattle.std.specs.Prelude.{Err}
+use Rattle.rules.specs.Faults.{refusal_of}
+use Rattle.rules.specs.declared.Fault.{Fault}
+use Rattle.rules.proofs.FaultLaws.{fault-some}
+use Rattle.cut.specs.Calls.{community_told, marks_of, community_fault, community_answer, community_marks, owners_fault, owners_of, owners_after}
 use Rattle.cut.proofs.CheckLaws.{at}
-use Rattle.rules.proofs.FillLaws.{over_agree, over-front}
+use Rattle.rules.proofs.FillLaws.{over_agree, over-front, over-copied}
 use Rattle.cut.proofs.SetLaws.{marks-size, marks-out, all_wanted, only-wanted}
 
 -- the community call's first fault
@@ -60,15 +62,13 @@ module _ (n : ℕ) (xs ys zs : List ℕ) (p q d room : ℕ) where
 
 -- what the community call answers and leaves, refused and accepted
 module _ (n : ℕ) (xs ys zs : List ℕ) (p q d : ℕ) (marks : List ℕ) where
-  pub community-refused : (r : Refusal) → community_fault n xs ys zs p q d (length marks) ≡ r → (r.number ≡ 0 → ⊥)
-      → ◌≡◌ {A = Answer} (record { number = r.number; place = r.place; size = 0; out = 0 }) (community_answer n xs ys zs p q d marks)
+  pub community-refused : (f : Fault) → community_fault n xs ys zs p q d (length marks) ≡ refusal_of f → community_told (Err f) ≡ community_answer n xs ys zs p q d marks
   unfolding community_answer
-  community-refused r e h = rw (e, ne_eqb r.number 0 h)
+  community-refused f e = rw (e, ne_eqb (refusal_of f).number 0 (fault-some f))
 
-  pub community-kept : (r : Refusal) → community_fault n xs ys zs p q d (length marks) ≡ r → (r.number ≡ 0 → ⊥)
-      → marks ≡ community_marks n xs ys zs p q d marks
+  pub community-kept : (f : Fault) → community_fault n xs ys zs p q d (length marks) ≡ refusal_of f → marks ≡ community_marks n xs ys zs p q d marks
   unfolding community_marks
-  community-kept r e h = rw (e, ne_eqb r.number 0 h)
+  community-kept f e = rw (e, ne_eqb (refusal_of f).number 0 (fault-some f))
 
   pub community-answered : community_fault n xs ys zs p q d (length marks) ≡ at 0 0
       → community_answer n xs ys zs p q d marks
@@ -105,17 +105,23 @@ module _ (n : ℕ) (xs ys zs : List ℕ) (p q room : ℕ) where
       owners-0 h = owners-fault-is ∙ call-rest n xs ys zs _ good ∙ simp (on, le-ltb _ _ h)
 
 module _ (n : ℕ) (xs ys zs : List ℕ) (p q : ℕ) (owner : List ℕ) where
-  pub owners-kept : (r : Refusal) → owners_fault n xs ys zs p q (length owner) ≡ r → (r.number ≡ 0 → ⊥) → owner ≡ owners_after n xs ys zs p q owner
+  pub owners-kept : (f : Fault) → owners_fault n xs ys zs p q (length owner) ≡ refusal_of f → owner ≡ owners_after n xs ys zs p q owner
   unfolding owners_after
-  owners-kept r e h = rw (e, ne_eqb r.number 0 h)
+  owners-kept f e = rw (e, ne_eqb (refusal_of f).number 0 (fault-some f))
 
   -- every device is wanted
-  pub owners-filled : n ≤ 128 → owners_fault n xs ys zs p q (length owner) ≡ at 0 0
-      → over (table n (sweep (community (plant_of n xs ys zs) p q) (wanted_in (replicate 128 1)) n n)) owner ≡ owners_after n xs ys zs p q owner
+  pub owners-found : n ≤ 128 → (old : List ℕ)
+      → over (table n (sweep (community (plant_of n xs ys zs) p q) (wanted_in (replicate 128 1)) n n)) old ≡ over (owners_of (plant_of n xs ys zs) p q) old
+  unfolding owners_of plant_of
+  owners-found few old =
+      over_agree n _ _ old (λ v h. sweep-agree n _ _ (wanted_in (replicate 128 1)) (λ d. true) n (λ k u a b. refl) (λ k a. all_wanted k (omega arith)) n v (le_refl n) h)
+
+  -- the front of the owners is copied
+  pub owners-filled : owners_fault n xs ys zs p q (length owner) ≡ at 0 0 → (ms : List ℕ) → ms ≡ over (owners_of (plant_of n xs ys zs) p q) (replicate 128 0)
+      → n ≤ length ms → (new : List ℕ) → new ≡ take n ms → new ++ drop n owner ≡ owners_after n xs ys zs p q owner
   unfolding owners_after owners_of plant_of
-  owners-filled few e =
-      over_agree n _ _ owner (λ v h. sweep-agree n _ _ (wanted_in (replicate 128 1)) (λ d. true) n (λ k u a b. refl) (λ k a. all_wanted k (omega arith)) n v (le_refl n) h)
-      ∙ rw e
+  owners-filled e ms found l new front =
+      over-copied n _ new ms owner front l (λ v h. ap (λ (t : List ℕ). get_or t v 0) found ∙ over-front n _ (replicate 128 0) v h) ∙ rw e
 
 -- the marks of the devices that d owns, it alone being wanted, are its community's, and the counts over them are its size and out
 module _ (n : ℕ) (xs ys zs : List ℕ) (p q d : ℕ) (accepted : Accepted n xs ys zs) (device : d < n) (old owner ms : List ℕ)
@@ -152,13 +158,7 @@ module _ (n : ℕ) (xs ys zs : List ℕ) (p q d : ℕ) (accepted : Accepted n xs
   found-out =
       sym (marks-out n xs ys zs ms _ found-community accepted.one_length accepted.one_length' accepted.first_device accepted.second_device)
 
-  pub found-marks : (marks : List ℕ) → over (table n (λ v. get_or ms v 0)) marks ≡ over (marks_of n (community (plant_of n xs ys zs) p q d)) marks
+  -- the front of the marks is copied
+  pub found-marks : (marks new : List ℕ) → n ≤ length ms → new ≡ take n ms → new ++ drop n marks ≡ over (marks_of n (community (plant_of n xs ys zs) p q d)) marks
   unfolding marks_of
-  found-marks marks = over_agree n _ _ marks found-community
-
--- what is said of an answer is said of the definition that it equals
-pub same-zero : {r f : Refusal} → r ≡ f → r.number ≡ 0 → f.number ≡ 0
-same-zero e z = sym (ap (λ (t : Refusal). t.number) e) ∙ z
-
-pub same_some : {r f : Refusal} → r ≡ f → (r.number ≡ 0 → ⊥) → f.number ≡ 0 → ⊥
-same_some e h z = h (ap (λ (t : Refusal). t.number) e ∙ z)
+  found-marks marks new l e = over-copied n _ new ms marks e l found-community

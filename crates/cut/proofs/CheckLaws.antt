@@ -2,7 +2,7 @@
 -- Assumes nothing.
 use Prim.Native.Nat.{ℕ, zero, suc, ◌+◌, ◌-◌, ◌≤◌, ◌<◌}
 use mathlib.Core.Path.{◌≡◌, refl, sym, ◌∙◌}
-use mathlib.Core.Bool.{true, false, ◌&&◌, ◌||◌, cond}
+use mathlib.Core.Bool.{true, false, ◌&&◌, ◌||◌}
 use mathlib.Core.List.{List}
 use native.Mathlib.Nat.{sub-zero}
 use native.Mathlib.Numerals.{add-one, sub-one}
@@ -10,7 +10,10 @@ use native.Mathlib.Omega.{arith}
 use borrow.Author.Tests.{eq-eqb, ne_eqb, le-leb, lt-leb, le-ltb, lt-ltb}
 use lib.Dec.{leb, ltb, eqb, eqb-suc-zero}
 use lib.ListN.{length, get_or}
-use Rattle.rules.specs.declared.Refusal.{Refusal}
+use Rattle.rules.specs.Refusal.{Refusal}
+use Rattle.rules.specs.Faults.{refusal_of}
+use Rattle.rules.specs.declared.Fault.{Fault}
+use Rattle.rules.proofs.FaultLaws.{first-fault}
 use Rattle.rules.proofs.RefusalLaws.{plant-is}
 use Rattle.rules.specs.Refusals.{done, cause, or_else, first_of, devices_fault, lists_fault, rises, line_fault, lines_from, lines_fault, plant_fault}
 
@@ -50,26 +53,22 @@ module _ (n : ℕ) (xs ys zs : List ℕ) (i : ℕ) where
         unfolding line_fault first_of or_else cause done
         breaks-none e = simp (e5, lt-leb _ _ h6, e7, e)
 
--- what the code answers when it leaves the loop at line i with that number
-unfoldable pub answer : ℕ → ℕ → Refusal
-answer number i = cond (eqb number 0) (at 0 0) (at number i)
-
 -- the lines below i break no rule: what is left to answer is the fault of those from i on
-pub record Passed (n : ℕ) (xs ys zs : List ℕ) (number i : ℕ) : Type 0 where
+pub record Passed (n : ℕ) (xs ys zs : List ℕ) (r : Refusal) (i : ℕ) : Type 0 where
   pub within : i ≤ length xs
-  pub so_far : number ≡ 0
+  pub so_far : r ≡ at 0 0
   pub left : lines_fault n xs ys zs ≡ lines_from n xs ys zs i (length xs - i)
 
 module _ (n : ℕ) (xs ys zs : List ℕ) where
-  pub passed_start : Passed n xs ys zs 0 0
+  pub passed_start : Passed n xs ys zs (at 0 0) 0
   unfolding lines_fault
   passed_start = record { within = omega arith; so_far = refl; left = rw sub-zero }
 
   from-i : (i : ℕ) → i < length xs → length xs - i ≡ suc (length xs - (i + 1))
   from-i i l = omega arith
 
-  module _ {number i : ℕ} (passed : Passed n xs ys zs number i) (l : i < length xs) where
-    pub passed-step : line_fault n xs ys zs i ≡ done → Passed n xs ys zs number (i + 1)
+  module _ {r : Refusal} {i : ℕ} (passed : Passed n xs ys zs r i) (l : i < length xs) where
+    pub passed-step : line_fault n xs ys zs i ≡ done → Passed n xs ys zs r (i + 1)
     unfolding lines_from or_else done
     passed-step e = record {
       within = omega arith;
@@ -77,27 +76,22 @@ module _ (n : ℕ) (xs ys zs : List ℕ) where
       left = passed.left ∙ (rw (from-i i l, e, add-one));
     }
 
-    pub passed-found : (k : ℕ) → line_fault n xs ys zs i ≡ at (suc k) i → lines_fault n xs ys zs ≡ answer (suc k) i
-    unfolding lines_from or_else answer
-    passed-found k e = passed.left ∙ (rw (from-i i l, e, eqb-suc-zero k))
+    pub passed-found : (k : ℕ) → line_fault n xs ys zs i ≡ at (suc k) i → at (suc k) i ≡ lines_fault n xs ys zs
+    unfolding lines_from or_else
+    passed-found k e = sym (passed.left ∙ (rw (from-i i l, e, eqb-suc-zero k)))
 
-  pub passed-all : {number i : ℕ} → Passed n xs ys zs number i → length xs ≤ i → lines_fault n xs ys zs ≡ answer number i
-  unfolding lines_from done answer
-  passed-all {number} {i} passed l =
+  pub passed-all : {r : Refusal} {i : ℕ} → Passed n xs ys zs r i → length xs ≤ i → r ≡ lines_fault n xs ys zs
+  unfolding lines_from done
+  passed-all {r} {i} passed l =
       let e : length xs - i ≡ 0 = omega arith in
-      passed.left ∙ (rw (e, passed.so_far))
+      passed.so_far ∙ sym (passed.left ∙ (rw e))
 
 -- the answers before the lines are looked at
+pub plant-devices : (n : ℕ) (xs ys zs : List ℕ) (f : Fault) → refusal_of f ≡ devices_fault n → refusal_of f ≡ plant_fault n xs ys zs
+plant-devices n xs ys zs f e = first-fault f _ e ∙ sym (plant-is n xs ys zs)
+
 module _ (n : ℕ) (xs ys zs : List ℕ) where
-  pub plant-none : n ≡ 0 → plant_fault n xs ys zs ≡ at 1 0
-  unfolding devices_fault first_of or_else cause done
-  plant-none e = plant-is n xs ys zs ∙ simp (eq-eqb _ _ e)
-
   module _ (some : n ≡ 0 → ⊥) where
-    pub plant-many : 128 < n → plant_fault n xs ys zs ≡ at 2 0
-    unfolding devices_fault first_of or_else cause done
-    plant-many h = plant-is n xs ys zs ∙ simp (ne_eqb _ _ some, lt-ltb _ _ h)
-
     module _ (few : n ≤ 128) where
       pub plant-uneven : (length xs ≡ length ys → ⊥) → plant_fault n xs ys zs ≡ at 3 0
       unfolding devices_fault lists_fault first_of or_else cause done

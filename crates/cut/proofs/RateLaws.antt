@@ -2,14 +2,20 @@
 -- Assumes nothing.
 use Prim.Native.Nat.{ℕ, ◌*◌, ◌/◌, ◌%◌, ◌∣◌, ◌≤◌, ◌<◌}
 use mathlib.Core.Path.{◌≡◌, refl, sym, ap, subst, ◌∙◌}
-use mathlib.Core.Bool.{Bool, true, false}
+use mathlib.Core.Bool.{Bool, true, false, cond}
+use lib.Dec.{eqb, ltb}
+use borrow.Author.Tests.{eq-eqb, ne_eqb, lt-ltb, le-ltb}
+use Rattle.std.specs.Ordering.{nat_cmp, MatchOrdering}
+use Rattle.std.specs.declared.cmp.Ordering.{Ordering}
+use Rattle.std.specs.declared.cmp.Ordering.TheVariants.{Less, Equal, Greater}
+use Rattle.std.specs.Cmp.{ranks}
 use native.Mathlib.Nat.{mul-le-mul, mul_assoc, mul_comm, mul_left_comm, one-mul, mul-div_cancel', dvd-zero, dvd_refl, dvd-mod_iff, dvd_of_mul-dvd-mul_right, mul-dvd-mul_right, eq-one_of_dvd-one}
 use native.Mathlib.Omega.{arith}
 use Rattle.rules.proofs.RangeLaws.{range-in}
 use Rattle.rules.proofs.LowestLaws.{lowest-first, lowest-second}
 use Rattle.rules.specs.Rates.{rate_ok, Same, Lowest}
-use Rattle.cut.specs.declared.rate.Reduced.{Reduced}
-use Rattle.cut.specs.RateCalls.{Reduction}
+use Rattle.cut.specs.RateCalls.{Reduced}
+use Rattle.cut.specs.RateCalls.{Reduction, order_of}
 use Rattle.cut.specs.RateLoop.{Divisor}
 
 -- a and b have the common divisors of p and q
@@ -61,6 +67,15 @@ module _ {p q c : ℕ} (h : Divisor p q c) where
 -- a cross product of two accepted rates is small
 pub cross-most : (p q r s : ℕ) → rate_ok p q ≡ true → rate_ok r s ≡ true → p * s ≤ 100000000000
 cross-most p q r s e f = mul-le-mul (range-in p q e).p_most (range-in r s f).q_most
+
+-- what a comparison of the cross products answers
+pub order-told : (a b : ℕ) → order_of (nat_cmp a b) ≡ cond (ltb a b) 1 (cond (eqb a b) 2 3)
+order-told a b = go (nat_cmp a b) (ranks a b)
+  where
+    go : (o : Ordering) → MatchOrdering o (a < b) (a ≡ b) (b < a) → order_of o ≡ cond (ltb a b) 1 (cond (eqb a b) 2 3)
+    go Less h = rw (lt-ltb a b h)
+    go Equal h = rw (le-ltb a b (omega (arith, h)), eq-eqb a b h)
+    go Greater h = rw (le-ltb a b (omega (arith, h)), ne_eqb a b (λ e. omega (arith, h, e)))
 
 -- the contract of a reduction determines its answer
 pub reduction-determined : (p q : ℕ) (r r' : Reduced) → Reduction p q r → Reduction p q r' → r ≡ r'

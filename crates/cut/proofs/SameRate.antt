@@ -8,7 +8,7 @@ use native.Mathlib.Omega.{arith}
 use borrow.Author.Tests.{eqb-true, eqb-false, leb-true, leb-false}
 use lib.Dec.{eqb, leb}
 use lib.ListN.{length}
-use Rattle.rules.specs.declared.Refusal.{Refusal}
+use Rattle.rules.specs.Refusal.{Refusal}
 use Rattle.rules.specs.Plant.{plant_of}
 use Rattle.rules.specs.Accepted.{Sound}
 use Rattle.rules.specs.Cut.{Devices, out, size}
@@ -19,7 +19,7 @@ use Rattle.rules.specs.Refusals.{rate_fault, plant_fault}
 use Rattle.rules.proofs.RefusalLaws.{accepted-sound}
 use Rattle.rules.proofs.Sums.{agree-out, agree-size}
 use Rattle.rules.proofs.Rates.{same-rate}
-use Rattle.cut.specs.declared.community.Answer.{Answer}
+use Rattle.cut.specs.Calls.{Answer}
 use Rattle.cut.specs.Calls.{marks_of, community_fault, community_answer, community_marks}
 use Rattle.rules.proofs.RangeLaws.{range-in}
 use Rattle.rules.proofs.FillLaws.{over_agree}

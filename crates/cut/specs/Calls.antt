@@ -1,7 +1,7 @@
 -- What the public calls answer and what they leave in the lent lists: document 01, "What a call fills" and "Refusal numbers".
 -- Assumes nothing.
-use Rattle.std.specs.Prelude.{ℕ, true, cond, List, eqb, length}
-use Rattle.rules.specs.declared.Refusal.{Refusal}
+use Rattle.std.specs.Prelude.{ℕ, true, cond, List, eqb, length, Result, Ok, Err}
+use Rattle.rules.specs.Refusal.{Refusal}
 use Rattle.rules.specs.Plant.{Plant, plant_of}
 use Rattle.rules.specs.Cut.{Devices, out, size}
 use Rattle.rules.specs.Community.{community}
@@ -9,7 +9,21 @@ use Rattle.rules.specs.Groups.{table}
 use Rattle.rules.specs.Sweep.{sweep}
 use Rattle.rules.specs.Refusals.{rate_fault, device_fault, room_fault, of_rate, of_device, of_room, in_order, about, plant_says}
 use Rattle.rules.specs.Lists.{after}
-use Rattle.cut.specs.declared.community.Answer.{Answer}
+use Rattle.rules.specs.Faults.{refusal_of}
+use Rattle.rules.specs.declared.Fault.{Fault}
+use Rattle.cut.specs.declared.community.Extent.{Extent}
+
+-- the answer of the community call: number and place, and the community's size and out
+pub record Answer : Type 0 where
+  pub number : ℕ
+  pub place : ℕ
+  pub size : ℕ
+  pub out : ℕ
+
+-- "For every answer that is an enum, a definition gives this paper's number and values for each case of the enum."
+abbrev pub community_told : Result Extent Fault → Answer
+community_told (Ok c) = record { number = 0; place = 0; size = c.size; out = c.out }
+community_told (Err f) = record { number = (refusal_of f).number; place = (refusal_of f).place; size = 0; out = 0 }
 
 -- "The community call fills 1 or 0 per device"
 unfoldable pub marks_of : ℕ → Devices → List ℕ

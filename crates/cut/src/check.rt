@@ -1,8 +1,9 @@
 // The check of a plant, document 01, "The plant" and "Refusal numbers" 1 to 8.
 ghost use Rattle.std.specs.Prelude.{◌≡◌, ◌||◌, leb, ltb, eqb, length, ◌<◌};
 ghost use Rattle.rules.specs.Refusals.{rises, lines_fault, plant_fault};
+ghost use Rattle.rules.specs.Faults.{told};
 
-use rules::{DEVICES, LINES, Refusal, SIGNALS};
+use rules::{Fault, LINES, SIGNALS, check_devices};
 
 // Whether an end of a line is not below n.
 fn beyond(n: usize, a: usize, b: usize) -> bool
@@ -11,7 +12,7 @@ fn beyond(n: usize, a: usize, b: usize) -> bool
     n <= a || n <= b
 }
 
-// Whether line i is above the one before, if there is one.
+// Whether line i is above the one before, if there is one. The lists are those handed in, which may be no plant yet.
 fn rising(firsts: &[usize], seconds: &[usize], i: usize) -> bool
     requires { (i < length firsts.now) × (length firsts.now ≡ length seconds.now) }
     ensures { result ≡ rises firsts.now seconds.now i }
@@ -30,78 +31,57 @@ fn off_range(s: usize) -> bool
     s == 0 || SIGNALS < s
 }
 
-// The first faulty line: the loop is left from inside the rule that a line breaks.
-fn check_lines(n: usize, firsts: &[usize], seconds: &[usize], signals: &[usize]) -> Refusal
+// The first faulty line: the loop is left from inside the rule that a line breaks, as document 01 has it ("Each place and its form").
+fn check_lines(
+    n: usize,
+    firsts: &[usize],
+    seconds: &[usize],
+    signals: &[usize],
+) -> Result<(), Fault>
     requires { (length firsts.now ≡ length seconds.now) × (length seconds.now ≡ length signals.now) }
-    ensures { result ≡ lines_fault n firsts.now seconds.now signals.now }
+    ensures { told result ≡ lines_fault n firsts.now seconds.now signals.now }
 {
-    let mut number = 0;
-    let mut i = 0;
-    'lines: while i < firsts.len() {
+    let mut verdict = Ok(());
+    'lines: for i in 0..firsts.len() {
         let a = firsts[i];
         let b = seconds[i];
         if beyond(n, a, b) {
-            number = 5;
+            verdict = Err(Fault::EndNoDevice(i));
             break 'lines;
         }
         if b <= a {
-            number = 6;
+            verdict = Err(Fault::EndsNotRising(i));
             break 'lines;
         }
         if !rising(firsts, seconds, i) {
-            number = 7;
+            verdict = Err(Fault::LineNotRising(i));
             break 'lines;
         }
         if off_range(signals[i]) {
-            number = 8;
+            verdict = Err(Fault::SignalsOffRange(i));
             break 'lines;
         }
-        i += 1;
     }
-    if number == 0 {
-        return Refusal {
-            number: 0,
-            place: 0,
-        };
-    }
-    Refusal { number, place: i }
+    verdict
 }
 
-// Number and place of the first fault of a plant; 0 and 0 of an accepted one.
-pub fn check_plant(n: usize, firsts: &[usize], seconds: &[usize], signals: &[usize]) -> Refusal
-    ensures { result ≡ plant_fault n firsts.now seconds.now signals.now }
+// The first fault of a plant, if it has one.
+// The plant comes as n and three lists, wrong ones too: document 01, "A plant is n with three lists of one length".
+pub fn check_plant(
+    n: usize,
+    firsts: &[usize],
+    seconds: &[usize],
+    signals: &[usize],
+) -> Result<(), Fault>
+    ensures { told result ≡ plant_fault n firsts.now seconds.now signals.now }
 {
-    let none = n == 0;
-    if none {
-        return Refusal {
-            number: 1,
-            place: 0,
-        };
-    }
-    if DEVICES < n {
-        return Refusal {
-            number: 2,
-            place: 0,
-        };
-    }
+    check_devices(n)?;
     let lines = firsts.len();
-    if lines != seconds.len() {
-        return Refusal {
-            number: 3,
-            place: 0,
-        };
-    }
-    if lines != signals.len() {
-        return Refusal {
-            number: 3,
-            place: 0,
-        };
+    if lines != seconds.len() || lines != signals.len() {
+        return Err(Fault::UnevenLists);
     }
     if LINES < lines {
-        return Refusal {
-            number: 4,
-            place: 0,
-        };
+        return Err(Fault::ManyLines);
     }
     check_lines(n, firsts, seconds, signals)
 }

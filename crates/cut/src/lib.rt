@@ -4,5 +4,6 @@
 pub mod check;
 pub mod community;
 pub mod owners;
+pub mod plant;
 pub mod rate;
 mod sets;

@@ -1,30 +1,54 @@
 // A rate p/q: its least and its largest, comparison by cross products, and reduction to lowest terms.
-ghost use Rattle.std.specs.Prelude.{◌≡◌, ◌≤◌, ◌<◌};
-ghost use Rattle.rules.specs.Rates.{rate_ok};
-ghost use Rattle.cut.specs.RateCalls.{compared, Reduction};
+ghost use Rattle.std.specs.Prelude.{◌≡◌, ◌≤◌, ◌<◌, IfOk};
+ghost use Rattle.rules.specs.Refusals.{rate_fault};
+ghost use Rattle.rules.specs.Faults.{told};
+ghost use Rattle.cut.specs.RateCalls.{compared, compare_told, Reduction, reduce_told};
 ghost use Rattle.cut.specs.RateLoop.{Divisor};
 
-#[derive(Clone, Copy)]
+use rules::Fault;
+use std::cmp::Ordering;
+
+// A rate p/q, in range or not. `==` holds of two pairs of numbers that are the same; "fractions compare by cross products", which `compare`
+// does.
+#[derive(Clone, Copy, Debug, PartialEq, Eq)]
 pub struct Rate {
     pub p: usize,
     pub q: usize,
 }
 
-// The answer of a comparison: order is 1 where the first rate is below the second, 2 where they are the same fraction, 3 where it is above.
-#[derive(Clone, Copy)]
-pub struct Compared {
-    pub number: usize,
-    pub place: usize,
-    pub order: usize,
-}
-
-// The answer of a reduction: the rate in lowest terms.
-#[derive(Clone, Copy)]
-pub struct Reduced {
-    pub number: usize,
-    pub place: usize,
+// A rate in range, as the functions behind the calls take it.
+#[derive(Clone, Copy, PartialEq, Eq)]
+pub struct AcceptedRate {
     pub p: usize,
     pub q: usize,
+    pub ghost p_least: { 1 ≤ p },
+    pub ghost p_most: { p ≤ 100000000 },
+    pub ghost q_least: { 1 ≤ q },
+    pub ghost q_most: { q ≤ 1000 },
+}
+
+impl AcceptedRate {
+    // The least and the largest rate that can be handed in.
+    pub const LEAST: AcceptedRate = AcceptedRate {
+        p: Rate::LEAST.p,
+        q: Rate::LEAST.q,
+    };
+
+    pub const LARGEST: AcceptedRate = AcceptedRate {
+        p: Rate::LARGEST.p,
+        q: Rate::LARGEST.q,
+    };
+}
+
+impl From<AcceptedRate> for Rate {
+    ghost from_gives = { λ a r. (r.p ≡ a.p) × (r.q ≡ a.q) };
+
+    fn from(rate: AcceptedRate) -> Rate {
+        Rate {
+            p: rate.p,
+            q: rate.q,
+        }
+    }
 }
 
 // A number that divides p and q, and that each of their common divisors divides.
@@ -48,87 +72,39 @@ impl Rate {
 
     pub const LARGEST: Rate = Rate { p: 100000000, q: 1 };
 
-    // Whether p and q are in range.
-    pub(crate) fn accepted(self) -> bool
-        ensures { result ≡ rate_ok self.p self.q }
+    // The rate, where p and q are in range.
+    pub(crate) fn check(self) -> Result<AcceptedRate, Fault>
+        ensures fault { told result ≡ rate_fault self.p self.q }
+        ensures rate { IfOk result (λ r. (r.p ≡ self.p) × (r.q ≡ self.q)) }
     {
         let p = self.p;
         let q = self.q;
-        if p < Rate::LEAST.p {
-            return false;
+        if p < Rate::LEAST.p || Rate::LARGEST.p < p || q < Rate::LARGEST.q || Rate::LEAST.q < q {
+            return Err(Fault::RateOffRange);
         }
-        if Rate::LARGEST.p < p {
-            return false;
-        }
-        if q < Rate::LARGEST.q {
-            return false;
-        }
-        if Rate::LEAST.q < q {
-            return false;
-        }
-        true
+        Ok(AcceptedRate { p, q })
     }
 
-    pub fn compare(self, other: Rate) -> Compared
-        ensures { result ≡ compared self.p self.q other.p other.q }
+    // Whether this rate is below the other, the same fraction, or above it.
+    pub fn compare(self, other: Rate) -> Result<Ordering, Fault>
+        ensures { compare_told result ≡ compared self.p self.q other.p other.q }
     {
-        if !self.accepted() {
-            return Compared {
-                number: 9,
-                place: 0,
-                order: 0,
-            };
-        }
-        if !other.accepted() {
-            return Compared {
-                number: 9,
-                place: 0,
-                order: 0,
-            };
-        }
+        self.check()?;
+        other.check()?;
         let here = self.p * other.q;
         let there = other.p * self.q;
-        let below = here < there;
-        if below {
-            return Compared {
-                number: 0,
-                place: 0,
-                order: 1,
-            };
-        }
-        if here == there {
-            return Compared {
-                number: 0,
-                place: 0,
-                order: 2,
-            };
-        }
-        Compared {
-            number: 0,
-            place: 0,
-            order: 3,
-        }
+        Ok(here.cmp(&there))
     }
 
-    pub fn reduce(self) -> Reduced
-        ensures { Reduction self.p self.q result }
+    // The same fraction in lowest terms.
+    pub fn reduce(self) -> Result<Rate, Fault>
+        ensures { Reduction self.p self.q (reduce_told result) }
     {
-        if !self.accepted() {
-            return Reduced {
-                number: 9,
-                place: 0,
-                p: 0,
-                q: 0,
-            };
-        }
-        let p = self.p;
-        let q = self.q;
-        let by = common(p, q);
-        Reduced {
-            number: 0,
-            place: 0,
-            p: p / by,
-            q: q / by,
-        }
+        self.check()?;
+        let by = common(self.p, self.q);
+        Ok(Rate {
+            p: self.p / by,
+            q: self.q / by,
+        })
     }
 }

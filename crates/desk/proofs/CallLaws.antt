@@ -8,7 +8,7 @@ use mathlib.Core.List.{List}
 use lib.ListN.{length, get_or, take}
 use lib.Seq.{take_at}
 use borrow.Author.Tests.{ne_eqb}
-use Rattle.rules.specs.declared.Refusal.{Refusal}
+use Rattle.rules.specs.Refusal.{Refusal}
 use Rattle.rules.specs.Plant.{Plant, plant_of}
 use Rattle.rules.specs.Groups.{table, label, groups, distinct}
 use Rattle.rules.specs.Refusals.{done}
@@ -19,12 +19,11 @@ use Rattle.rules.proofs.RangeLaws.{range-in}
 use Rattle.rules.proofs.Instance.{family}
 use Rattle.rules.proofs.LabelLaws.{label-below, table-agree}
 use Rattle.rules.proofs.FillLaws.{over-front}
-use Rattle.grouping.specs.declared.grouping.Grouping.{Grouping}
+use Rattle.grouping.specs.Calls.{Grouping}
 use Rattle.grouping.specs.Calls.{grouping_fault, grouping_answer, labels_after}
 use Rattle.grouping.proofs.FaultLaws.{Clear, owners-cases, grouping-short, grouping-done}
-use Rattle.text.specs.declared.Reading.{Reading}
 use Rattle.text.specs.Form.{form}
-use Rattle.text.specs.Reading.{firsts_of, seconds_of, signals_of, read_fault, read_answer, read_list, ReadIs}
+use Rattle.text.specs.Reading.{Reading, firsts_of, seconds_of, signals_of, read_fault, read_answer, read_list, ReadIs}
 use Rattle.text.proofs.Judged.{values_length}
 use Rattle.text.proofs.Accepted.{read-clean, text-right}
 use Rattle.desk.specs.Calls.{stated_plant, desk_fault, desk_answer, desk_labels}

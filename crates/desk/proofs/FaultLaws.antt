@@ -8,7 +8,7 @@ use native.Mathlib.Decide.{ℕ_discrete}
 use lib.Dec.{eqb}
 use lib.ListN.{length}
 use borrow.Author.Tests.{le-ltb}
-use Rattle.rules.specs.declared.Refusal.{Refusal}
+use Rattle.rules.specs.Refusal.{Refusal}
 use Rattle.rules.specs.Refusals.{done, cause, or_else, first_of, lines_fault, after_plant, fixed_order, in_order, nothing, about, plant_says, plant_fault}
 use Rattle.rules.proofs.RefusalLaws.{clean-cause, or_else-assoc, or_else-first, or_else-done, done_next, lines-clean, plant-is, call-is}
 use Rattle.grouping.specs.Calls.{grouping_fault}

@@ -2,12 +2,12 @@
 -- at one rate, with the grouping call's answers". A byte is its number, so that labels are compared with the rules' own.
 -- Assumes nothing.
 use Rattle.std.specs.Prelude.{ℕ, ◌≡◌, cond, List, [], ◌∷◌, eqb, length}
-use Rattle.rules.specs.declared.Refusal.{Refusal}
+use Rattle.rules.specs.Refusal.{Refusal}
 use Rattle.rules.specs.Plant.{Plant, plant_of}
 use Rattle.rules.specs.Groups.{groups, distinct}
 use Rattle.rules.specs.Refusals.{first_of, rate_fault, room_fault, of_text, of_rate, of_room, in_order, about, plant_says}
 use Rattle.rules.specs.Lists.{after}
-use Rattle.grouping.specs.declared.grouping.Grouping.{Grouping}
+use Rattle.grouping.specs.Calls.{Grouping}
 use Rattle.text.specs.Form.{form}
 use Rattle.text.specs.Reading.{long_fault, form_fault_of, firsts_of, seconds_of, signals_of}
 

@@ -1,10 +1,10 @@
 -- The greatest crossing rate of each coarser group and the least of these, one device after the other: a device changes nothing, or its
 -- rate takes the place of the one that was best so far. Assumes nothing.
-use Prim.Native.Nat.{ℕ, ◌+◌, ◌*◌, ◌≤◌, ◌<◌}
+use Prim.Native.Nat.{ℕ, ◌+◌, ◌-◌, ◌*◌, ◌≤◌, ◌<◌}
 use mathlib.Core.Path.{◌≡◌, refl, sym}
 use mathlib.Core.List.{List}
 use mathlib.Core.Logic.{inl, inr, ⊎_elim}
-use native.Mathlib.Nat.{mul-le-mul}
+use native.Mathlib.Nat.{mul-le-mul, le_trans}
 use native.Mathlib.Decide.{ℕ_discrete}
 use native.Mathlib.Omega.{arith}
 use lib.ListN.{length, get_or, set, replicate, length-set, length-replicate, get_or-replicate}
@@ -16,7 +16,8 @@ use Rattle.rules.specs.Accepted.{Accepted}
 use Rattle.rules.proofs.Sums.{size-most}
 use Rattle.rules.proofs.PlantLaws.{out-most}
 use Rattle.rules.proofs.OrderLaws.{at-most-trans}
-use Rattle.grouping.specs.Stretch.{sharing, LabelsBelow, SizesOf, OutsOf, Grows, cross_p, cross_q, Greatest, LeastOf}
+use Rattle.cut.specs.declared.rate.Rate.{Rate}
+use Rattle.grouping.specs.Stretch.{sharing, LabelsBelow, SizesOf, OutsOf, ExtentsOf, rate_at, Grows, cross_p, cross_q, Greatest, LeastOf}
 
 -- an entry of a table is that of the group of device v
 pub table-size : (g : Plant) (labels sizes : List ℕ) (v : ℕ) → SizesOf g labels sizes → get_or labels v 0 < g.devices → get_or sizes (get_or labels v 0) 0 ≡ size g (sharing labels v)
@@ -74,16 +75,14 @@ module _ (g : Plant) (finer coarser : List ℕ) where
     }
 
   -- for each label the greatest rate of the devices below v
-  pub record Bests (p q : List ℕ) (v : ℕ) : Type 0 where
-    pub wide_p : length p ≡ 128
-    pub wide_q : length q ≡ 128
-    pub each : (h : ℕ) → h < g.devices → Greatest g finer coarser h v (get_or p h 0) (get_or q h 0)
+  pub record Bests (rates : List Rate) (v : ℕ) : Type 0 where
+    pub wide : length rates ≡ 128
+    pub each : (h : ℕ) → h < g.devices → Greatest g finer coarser h v (rate_at rates h).p (rate_at rates h).q
 
-  pub bests-start : 1 ≤ g.devices → g.devices ≤ 128 → Bests (replicate 128 0) (replicate 128 1) 0
+  pub bests-start : 1 ≤ g.devices → g.devices ≤ 128 → Bests (replicate 128 (record { p = 0; q = 1 })) 0
   bests-start some most = record {
-    wide_p = length-replicate {A = ℕ} 128 0;
-    wide_q = length-replicate {A = ℕ} 128 1;
-    each = λ h l. rw (get_or-replicate {A = ℕ} 128 h 0 0 (omega arith), get_or-replicate {A = ℕ} 128 h 1 0 (omega arith)) (record {
+    wide = length-replicate {A = Rate} 128 (record { p = 0; q = 1 });
+    each = λ h l. rw (get_or-replicate {A = Rate} 128 h (record { p = 0; q = 1 }) (record { p = 0; q = 0 }) (omega arith)) (record {
       some = omega arith;
       few = some;
       most = omega arith;
@@ -92,45 +91,48 @@ module _ (g : Plant) (finer coarser : List ℕ) where
     });
   }
 
-  module _ (p q : List ℕ) (v : ℕ) (now : Bests p q v) where
+  module _ (rates : List Rate) (v : ℕ) (now : Bests rates v) where
     abbrev h : ℕ
     h = get_or coarser v 0
 
     -- the group of device v does not grow, or its rate is not above the greatest so far
-    pub bests-kept : (Grows g finer coarser v → P v * get_or q h 0 ≤ get_or p h 0 * Q v) → {p' q' : List ℕ} → p' ≡ p → q' ≡ q → Bests p' q' (v + 1)
-    bests-kept at_most a b = rw (a, b) (record {
-      wide_p = now.wide_p;
-      wide_q = now.wide_q;
-      each = λ k l. greatest-kept k v (get_or p k 0) (get_or q k 0) (now.each k l) (λ e. rw e at at_most);
+    pub bests-kept : (Grows g finer coarser v → P v * (rate_at rates h).q ≤ (rate_at rates h).p * Q v) → {rates' : List Rate} → rates' ≡ rates → Bests rates' (v + 1)
+    bests-kept at_most a = rw a (record {
+      wide = now.wide;
+      each = λ k l. greatest-kept k v (rate_at rates k).p (rate_at rates k).q (now.each k l) (λ e. rw e at at_most);
     })
 
     -- it takes the place of the greatest so far
     pub bests-taken : P v ≤ 67107840 → h < g.devices → g.devices ≤ 128 → Grows g finer coarser v
-        → {x y : ℕ} → (x ≡ P v) × (y ≡ Q v) → get_or p h 0 * y < x * get_or q h 0 → {p' q' : List ℕ} → p' ≡ set p h x → q' ≡ set q h y → Bests p' q' (v + 1)
-    bests-taken bound device most grows e above a b = rw (a, b, e.0, e.1) (record {
-      wide_p = rw length-set now.wide_p;
-      wide_q = rw length-set now.wide_q;
-      each = λ k l. known (rw (e.0, e.1) at above) k l (ℕ_discrete k h);
+        → {r : Rate} → (r.p ≡ P v) × (r.q ≡ Q v) → (rate_at rates h).p * r.q < r.p * (rate_at rates h).q → {rates' : List Rate} → rates' ≡ set rates h r → Bests rates' (v + 1)
+    bests-taken bound device most grows {r} e above a = rw a (record {
+      wide = rw length-set now.wide;
+      each = λ k l. known k l (ℕ_discrete k h);
     })
       where
-        known : get_or p h 0 * Q v < P v * get_or q h 0 → (k : ℕ) → k < g.devices → Dec (k ≡ h) → Greatest g finer coarser k (v + 1) (get_or (set p h (P v)) k 0) (get_or (set q h (Q v)) k 0)
-        known above' k l (yes same) = rw (same, get_or-set_same p h (P v) 0 (omega (arith, now.wide_p)), get_or-set_same q h (Q v) 0 (omega (arith, now.wide_q)))
-            (greatest-taken h v (get_or p h 0) (get_or q h 0) (now.each h device) bound refl grows above')
-        known above' k l (no ne) = rw (get_or-set_other p h k (P v) 0 ne, get_or-set_other q h k (Q v) 0 ne)
-            (greatest-kept k v (get_or p k 0) (get_or q k 0) (now.each k l) (λ e. absurd (ne (sym e))))
+        taken : Greatest g finer coarser h (v + 1) r.p r.q
+        taken = rw (e.0, e.1) (greatest-taken h v (rate_at rates h).p (rate_at rates h).q (now.each h device) bound refl grows (rw (e.0, e.1) at above))
 
-  -- ps/qs are the greatest rates of the coarser groups
-  module _ (ps qs : List ℕ) (greatest : (h : ℕ) → h < g.devices → Greatest g finer coarser h g.devices (get_or ps h 0) (get_or qs h 0)) (labels : LabelsBelow g.devices coarser) where
+        known : (k : ℕ) → k < g.devices → Dec (k ≡ h) → Greatest g finer coarser k (v + 1) (rate_at (set rates h r) k).p (rate_at (set rates h r) k).q
+        known k l (yes same) = rw (same, get_or-set_same rates h r (record { p = 0; q = 0 }) (omega (arith, now.wide))) taken
+        known k l (no ne) = rw (get_or-set_other rates h k r (record { p = 0; q = 0 }) ne)
+            (greatest-kept k v (rate_at rates k).p (rate_at rates k).q (now.each k l) (λ e. absurd (ne (sym e))))
+
+  -- the greatest rates of the coarser groups
+  module _ (rates : List Rate) (greatest : (h : ℕ) → h < g.devices → Greatest g finer coarser h g.devices (rate_at rates h).p (rate_at rates h).q) (labels : LabelsBelow g.devices coarser) where
     abbrev Pᵍ : ℕ → ℕ
-    Pᵍ v = get_or ps (get_or coarser v 0) 0
+    Pᵍ v = (rate_at rates (get_or coarser v 0)).p
 
     abbrev Qᵍ : ℕ → ℕ
-    Qᵍ v = get_or qs (get_or coarser v 0) 0
+    Qᵍ v = (rate_at rates (get_or coarser v 0)).q
 
-    pub least_start : LeastOf g finer coarser ps qs 0 1 0
-    least_start = record { bottom = λ v l. absurd (omega arith); got = inl (refl, refl, λ v l. absurd (omega arith)) }
+    module _ (v : ℕ) (least : Rate) (within : v < g.devices) (now : LeastOf g finer coarser rates v least.p least.q) where
+      abbrev p : ℕ
+      p = least.p
 
-    module _ (v p q : ℕ) (within : v < g.devices) (now : LeastOf g finer coarser ps qs v p q) where
+      abbrev q : ℕ
+      q = least.q
+
       pub least-small : (p ≤ 67107840) × (q ≤ g.devices)
       least-small =
           ⊎_elim
@@ -139,8 +141,8 @@ module _ (g : Plant) (finer coarser : List ℕ) where
           now.got
 
       -- the group of device v does not grow, or its rate is not below the least so far
-      pub least_kept : (Grows g finer coarser v → p * Qᵍ v ≤ Pᵍ v * q) → {p' q' : ℕ} → p' ≡ p → q' ≡ q → LeastOf g finer coarser ps qs (v + 1) p' q'
-      least_kept at_most a b = rw (a, b) (record {
+      pub least_kept : (Grows g finer coarser v → p * Qᵍ v ≤ Pᵍ v * q) → {least' : Rate} → least' ≡ least → LeastOf g finer coarser rates (v + 1) least'.p least'.q
+      least_kept at_most a = rw a (record {
         bottom = below_more (λ u. Grows g finer coarser u → p * Qᵍ u ≤ Pᵍ u * q) v now.bottom at_most;
         got =
             ⊎_elim
@@ -153,8 +155,8 @@ module _ (g : Plant) (finer coarser : List ℕ) where
           none one zero e = omega (arith, rw (one, zero) at (at_most e), (greatest (get_or coarser v 0) (labels v within)).some)
 
       -- it takes the place of the least so far
-      pub least-taken : Grows g finer coarser v → Pᵍ v * q < p * Qᵍ v → {p' q' : ℕ} → p' ≡ Pᵍ v → q' ≡ Qᵍ v → LeastOf g finer coarser ps qs (v + 1) p' q'
-      least-taken grows under a b = rw (a, b) (record {
+      pub least-taken : Grows g finer coarser v → Pᵍ v * q < p * Qᵍ v → {least' : Rate} → least' ≡ rate_at rates (get_or coarser v 0) → LeastOf g finer coarser rates (v + 1) least'.p least'.q
+      least-taken grows under a = rw a (record {
         bottom = below_more (λ u. Grows g finer coarser u → Pᵍ v * Qᵍ u ≤ Pᵍ u * Qᵍ v) v earlier (λ e. omega arith);
         got = inr (v, omega arith, grows, refl, refl);
       })
@@ -167,8 +169,51 @@ module _ (g : Plant) (finer coarser : List ℕ) where
               now.got
 
   -- after all devices
-  pub bests-all : {p q : List ℕ} {v : ℕ} → v ≡ g.devices → Bests p q v → (h : ℕ) → h < g.devices → Greatest g finer coarser h g.devices (get_or p h 0) (get_or q h 0)
+  pub bests-all : {rates : List Rate} {v : ℕ} → v ≡ g.devices → Bests rates v → (h : ℕ) → h < g.devices → Greatest g finer coarser h g.devices (rate_at rates h).p (rate_at rates h).q
   bests-all e now = rw e at now.each
 
-  pub least-all : {ps qs : List ℕ} {v p q : ℕ} (k : ℕ) → v ≡ k → LeastOf g finer coarser ps qs v p q → LeastOf g finer coarser ps qs k p q
-  least-all k e now = rw e at now
+-- what a turn of either loop knows of device v: the sizes and outs of its two groups, by the lists with an entry for each label
+module _ (n : ℕ) (xs ys zs : List ℕ) (a : Accepted n xs ys zs) (finer coarser : List ℕ) where
+  abbrev g' : Plant
+  g' = plant_of n xs ys zs
+
+  module _ {fine-sizes fine-outs coarse-sizes coarse-outs : List ℕ} (fine : ExtentsOf (plant_of n xs ys zs) finer fine-sizes fine-outs)
+      (coarse : ExtentsOf (plant_of n xs ys zs) coarser coarse-sizes coarse-outs) (v : ℕ) (bf : get_or finer v 0 < n) (bc : get_or coarser v 0 < n) where
+    pub turn-sizes : (get_or fine-sizes (get_or finer v 0) 0 ≡ size (plant_of n xs ys zs) (sharing finer v))
+        × (get_or coarse-sizes (get_or coarser v 0) 0 ≡ size (plant_of n xs ys zs) (sharing coarser v))
+    unfolding plant_of
+    turn-sizes = (table-size g' finer fine-sizes v fine.size_is bf, table-size g' coarser coarse-sizes v coarse.size_is bc)
+
+    turn-outs : (get_or fine-outs (get_or finer v 0) 0 ≡ out g'.lines (sharing finer v)) × (get_or coarse-outs (get_or coarser v 0) 0 ≡ out g'.lines (sharing coarser v))
+    unfolding plant_of
+    turn-outs = (table-out g' finer fine-outs v fine.out_is bf, table-out g' coarser coarse-outs v coarse.out_is bc)
+
+    -- the crossing rate of device v
+    pub turn-rate : {r : Rate}
+        → (r.p ≡ get_or fine-outs (get_or finer v 0) 0 - get_or coarse-outs (get_or coarser v 0) 0) × (r.q ≡ get_or coarse-sizes (get_or coarser v 0) 0 - get_or fine-sizes (get_or finer v 0) 0)
+        → (r.p ≡ cross_p (plant_of n xs ys zs) finer coarser v) × (r.q ≡ cross_q (plant_of n xs ys zs) finer coarser v)
+    unfolding cross_p cross_q
+    turn-rate e = (omega (arith, turn-outs, e.0), omega (arith, turn-sizes, e.1))
+
+  -- its products with the greatest so far are small
+  pub turn-products : (rates : List Rate) (k v : ℕ) → Bests (plant_of n xs ys zs) finer coarser rates k → get_or coarser v 0 < n
+      → {r : Rate} → (r.p ≡ cross_p (plant_of n xs ys zs) finer coarser v) × (r.q ≡ cross_q (plant_of n xs ys zs) finer coarser v)
+      → ((rate_at rates (get_or coarser v 0)).p * r.q ≤ 8589803520) × (r.p * (rate_at rates (get_or coarser v 0)).q ≤ 8589803520)
+  unfolding plant_of
+  turn-products rates k v now b e =
+      let best = now.each (get_or coarser v 0) b in (
+        product_small _ _ best.most (omega (arith, e, rate-few g' finer coarser v, a.most_devices)),
+        product_small _ _ (omega (arith, e, rate-most n xs ys zs a finer coarser v)) (le_trans best.few a.most_devices),
+      )
+
+  -- and so are those of the least so far with a greatest one
+  pub least-products : (rates : List Rate) (v : ℕ) (least : Rate) → ((h : ℕ) → h < n → Greatest (plant_of n xs ys zs) finer coarser h n (rate_at rates h).p (rate_at rates h).q)
+      → LabelsBelow n coarser → v < n → LeastOf (plant_of n xs ys zs) finer coarser rates v least.p least.q
+      → ((rate_at rates (get_or coarser v 0)).p * least.q ≤ 8589803520) × (least.p * (rate_at rates (get_or coarser v 0)).q ≤ 8589803520)
+  unfolding plant_of
+  least-products rates v least top below h now =
+      let best = top (get_or coarser v 0) (below v h) in
+      let small = least-small g' finer coarser rates top below v least h now in (
+        product_small _ _ best.most (le_trans small.1 a.most_devices),
+        product_small _ _ small.0 (le_trans best.few a.most_devices),
+      )

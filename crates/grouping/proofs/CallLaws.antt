@@ -7,14 +7,14 @@ use Prim.Native.Nat.{ℕ, ◌≤◌, ◌<◌}
 use native.Mathlib.Omega.{arith}
 use lib.ListN.{length, get_or, replicate}
 use borrow.Author.Tests.{ne_eqb}
-use Rattle.rules.specs.declared.Refusal.{Refusal}
+use Rattle.rules.specs.Refusal.{Refusal}
 use Rattle.rules.specs.Plant.{Plant, plant_of}
 use Rattle.rules.specs.Accepted.{Sound}
 use Rattle.rules.specs.Groups.{table, groups, distinct}
 use Rattle.rules.specs.Refusals.{done}
 use Rattle.rules.proofs.RefusalLaws.{accepted-sound}
 use Rattle.rules.specs.Lists.{over}
-use Rattle.cut.specs.Calls.{owners_fault, owners_after}
+use Rattle.cut.specs.Calls.{owners_fault, owners_of, owners_after}
 use Rattle.rules.proofs.RangeLaws.{InRange, range-in}
 use Rattle.grouping.specs.Calls.{grouping_fault, grouping_answer, labels_after}
 use Rattle.grouping.specs.Level.{first_with, IsLevel, Swept}
@@ -41,9 +41,12 @@ module _ (n : ℕ) (xs ys zs : List ℕ) (p q : ℕ) where
     range = range-in p q clear.rate
 
     -- what the search for owners leaves
+    pub at-swept : (owner : List ℕ) → owner ≡ over (owners_of (plant_of n xs ys zs) p q) (replicate 128 0) → Swept (plant_of n xs ys zs) p q owner
+    at-swept owner e = swept_all g p q sound range.p_least (replicate 128 0) owner e
+
     pub all-swept : (owner : List ℕ) → owner ≡ owners_after n xs ys zs p q (replicate 128 0) → Swept g p q owner
     unfolding owners_after done
-    all-swept owner e = swept_all g p q sound range.p_least (replicate 128 0) owner (e ∙ rw (owners-done n xs ys zs p q clear))
+    all-swept owner e = at-swept owner (e ∙ rw (owners-done n xs ys zs p q clear))
 
     module _ {owner : List ℕ} (swept : Swept (plant_of n xs ys zs) p q owner) where
       pub found-devices : (v : ℕ) → v < n → get_or owner v 0 < n
@@ -57,7 +60,7 @@ module _ (n : ℕ) (xs ys zs : List ℕ) (p q : ℕ) where
       pub found-level : {level : Level} → (level.owner ≡ owner) × (level.labels ≡ over (table n (first_with n owner)) (replicate 128 0)) × (level.groups ≡ distinct (table n (first_with n owner)))
           → IsLevel g p q level
       unfolding plant_of
-      found-level {level} (a, b, e) = subst (λ (o : List ℕ). IsLevel g p q (record { labels = level.labels; owner = o; groups = level.groups })) (sym a) (swept-level g p q sound range.p_least swept clear.accepted.most_devices b e)
+      found-level {level} (a, b, e) = subst (λ (o : List ℕ). IsLevel g p q (record { labels = level.labels; owner = o; groups = level.groups })) (sym a) (swept-level g p q sound range.p_least swept b e)
 
   -- the answer and the labels of a refused call
   kept : (r : Refusal) (labels : List ℕ) → grouping_fault n xs ys zs p q (length labels) ≡ r → (r.number ≡ 0 → ⊥)

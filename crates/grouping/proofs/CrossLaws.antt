@@ -2,6 +2,7 @@
 --     sharing-group, labels-below    by the labels of a grouping: the devices with one label are a group, and labels are devices
 --     some-grows, crossing-groups    of two levels that differ: the group of some device grows; a crossing is one of their groups
 --     crossing-found                 the least of the greatest rates is a crossing
+--     crossing-accepted              and in range
 --     crossing-rate                  reduced, it is the crossing rate in lowest terms
 -- Assumes nothing.
 use Prim.Native.Nat.{ℕ, ◌-◌, ◌*◌, ◌≤◌, ◌<◌}
@@ -29,10 +30,13 @@ use Rattle.rules.proofs.CrossingLaws.{not_below, crossing-agree, crossing-reduce
 use Rattle.rules.proofs.LowestLaws.{lowest-least}
 use Rattle.rules.proofs.RangeLaws.{in-range}
 use Rattle.rules.proofs.RefusalLaws.{accepted-sound}
-use Rattle.cut.specs.declared.rate.Reduced.{Reduced}
-use Rattle.cut.specs.RateCalls.{Reduction}
+use Rattle.std.specs.Prelude.{Result, Ok, Err, IsOk}
+use Rattle.rules.specs.declared.Fault.{Fault}
+use Rattle.rules.proofs.FaultLaws.{fault-some}
+use Rattle.cut.specs.RateCalls.{Reduced, Reduction, reduce_told}
+use Rattle.cut.specs.declared.rate.Rate.{Rate}
 use Rattle.grouping.specs.Level.{Labelled}
-use Rattle.grouping.specs.Stretch.{with_label, sharing, LabelsBelow, Grows, cross_p, cross_q, Greatest, LeastOf, CrossingRate, Apart}
+use Rattle.grouping.specs.Stretch.{with_label, sharing, LabelsBelow, rate_at, Grows, cross_p, cross_q, Greatest, LeastOf, CrossingRate, Apart}
 
 -- the devices with the label of u: those whose label is that of u
 shared : (labels : List ℕ) (u v : ℕ) → sharing labels u v ≡ true → get_or labels v 0 ≡ get_or labels u 0
@@ -97,10 +101,10 @@ greatest-at : {g : Plant} {finer coarser : List ℕ} {h k p q p' q' : ℕ} → p
 greatest-at e f top = rw (e, f) top
 
 -- the greatest rate of each coarser label, and the least of these
-module _ (g : Plant) (finer coarser ps qs : List ℕ) (p q : ℕ)
+module _ (g : Plant) (finer coarser : List ℕ) (rates : List Rate) (p q : ℕ)
     (below : LabelsBelow g.devices coarser)
-    (top : (h : ℕ) → h < g.devices → Greatest g finer coarser h g.devices (get_or ps h 0) (get_or qs h 0))
-    (least : LeastOf g finer coarser ps qs g.devices p q)
+    (top : (h : ℕ) → h < g.devices → Greatest g finer coarser h g.devices (rate_at rates h).p (rate_at rates h).q)
+    (least : LeastOf g finer coarser rates g.devices p q)
     (grows : ((v : ℕ) → v < g.devices → Grows g finer coarser v → ⊥) → ⊥) where
   abbrev n : ℕ
   n = g.devices
@@ -108,7 +112,7 @@ module _ (g : Plant) (finer coarser ps qs : List ℕ) (p q : ℕ)
   abbrev head : ℕ → ℕ
   head v = get_or coarser v 0
 
-  abbrev greatest : (v : ℕ) → v < n → Greatest g finer coarser (head v) n (get_or ps (head v) 0) (get_or qs (head v) 0)
+  abbrev greatest : (v : ℕ) → v < n → Greatest g finer coarser (head v) n (rate_at rates (head v)).p (rate_at rates (head v)).q
   greatest v h = top (head v) (below v h)
 
   -- p/q is the greatest rate of the coarser group of `at`
@@ -116,8 +120,8 @@ module _ (g : Plant) (finer coarser ps qs : List ℕ) (p q : ℕ)
     at : ℕ
     device : at < n
     grown : Grows g finer coarser at
-    is_p : p ≡ get_or ps (head at) 0
-    is_q : q ≡ get_or qs (head at) 0
+    is_p : p ≡ (rate_at rates (head at)).p
+    is_q : q ≡ (rate_at rates (head at)).q
 
   found : Found
   found =
@@ -138,7 +142,7 @@ module _ (g : Plant) (finer coarser ps qs : List ℕ) (p q : ℕ)
   -- the greatest rate of label h is that of a device
   abbrev Attained : ℕ → Type 0
   Attained h =
-      (v : ℕ) × (v < n) × (head v ≡ h) × Grows g finer coarser v × (get_or ps h 0 ≡ cross_p g finer coarser v) × (get_or qs h 0 ≡ cross_q g finer coarser v)
+      (v : ℕ) × (v < n) × (head v ≡ h) × Grows g finer coarser v × ((rate_at rates h).p ≡ cross_p g finer coarser v) × ((rate_at rates h).q ≡ cross_q g finer coarser v)
 
   pub crossing-found : Crossing g (sharing finer) (sharing coarser) p q
   unfolding cross_p cross_q
@@ -156,10 +160,10 @@ module _ (g : Plant) (finer coarser ps qs : List ℕ) (p q : ℕ)
       each : (u : ℕ) → u < n → Grows g finer coarser u → Held u
       each u h l = ⊎_elim none some (greatest u h).got
         where
-          low : p * get_or qs (head u) 0 ≤ get_or ps (head u) 0 * q
+          low : p * (rate_at rates (head u)).q ≤ (rate_at rates (head u)).p * q
           low = least.bottom u h l
 
-          none : get_or ps (head u) 0 ≡ 0 → Held u
+          none : (rate_at rates (head u)).p ≡ 0 → Held u
           none z =
               let gone : p ≡ 0 = omega (arith, le_of_mul-le-mul_right {m = p} {n = 0} (omega (arith, rw z at low)) (greatest u h).some) in
               (u, h, sharing-true coarser u u refl, l, rw gone (omega arith))
@@ -222,33 +226,59 @@ module _ (n : ℕ) (xs ys zs finer coarser : List ℕ) (ap aq bp bq : ℕ) (ok :
   abbrev grows : ((v : ℕ) → v < plant.devices → Grows plant finer coarser v → ⊥) → ⊥
   grows = some-grows plant ap aq bp bq finer coarser sound a
 
-  pub crossing-rate : (ps qs : List ℕ) (p q : ℕ) (r : Reduced)
-      → ((h : ℕ) → h < n → Greatest (plant_of n xs ys zs) finer coarser h n (get_or ps h 0) (get_or qs h 0))
-      → LeastOf (plant_of n xs ys zs) finer coarser ps qs n p q
-      → Reduction p q r
-      → CrossingRate (plant_of n xs ys zs) finer coarser r.p r.q
-  unfolding plant_of
-  crossing-rate ps qs p q r top least reduced =
-      let x = crossing-found plant finer coarser ps qs p q coarser-below top least grows in
-      let u : 1 ≤ q = found_some plant finer coarser ps qs p q coarser-below top least grows in
-      let most : p ≤ 67107840 = found-most plant finer coarser ps qs p q coarser-below top least grows in
-      let o : 1 ≤ p = found-positive plant ap aq bp bq finer coarser sound a p q u x in
-      let few : q ≤ n - 1 = found-few plant finer coarser ps qs p q coarser-below top least grows o in
-      let accepted : rate_ok p q ≡ true = in-range (record { p_least = o; p_most = omega arith; q_least = u; q_most = omega (arith, ok.most_devices) }) in
-      let same = reduced.same accepted in
-      let low = reduced.lowest accepted in
-      let x' = crossing-reduced p q r.p r.q u same x in
-      let u' = lowest-some-q p q r.p r.q o u same low in
-      let less : r.q ≤ q = lowest-least p q r.p r.q u same low in
-      record {
-        crossing = x';
-        lowest = low;
-        accepted = in-range (record {
-          p_least = found-positive plant ap aq bp bq finer coarser sound a r.p r.q u' x';
-          p_most = omega (arith, lowest-most-p p q r.p r.q o u same low);
-          q_least = u';
-          q_most = omega (arith, ok.most_devices);
-        });
-        most = omega (arith, lowest-most-p p q r.p r.q o u same low);
-        few = omega arith;
-      }
+  module _ (rates : List Rate) (p q : ℕ) (top : (h : ℕ) → h < n → Greatest (plant_of n xs ys zs) finer coarser h n (rate_at rates h).p (rate_at rates h).q)
+      (least : LeastOf (plant_of n xs ys zs) finer coarser rates n p q) where
+    -- the least of the greatest rates is a crossing, and in range
+    record Least : Type 0 where
+      crossing : Crossing plant (sharing finer) (sharing coarser) p q
+      some_p : 1 ≤ p
+      some_q : 1 ≤ q
+      most : p ≤ 67107840
+      few : q ≤ n - 1
+
+    least-is : Least
+    unfolding plant_of
+    least-is =
+        let x = crossing-found plant finer coarser rates p q coarser-below top least grows in
+        let u : 1 ≤ q = found_some plant finer coarser rates p q coarser-below top least grows in
+        let o : 1 ≤ p = found-positive plant ap aq bp bq finer coarser sound a p q u x in
+        record {
+          crossing = x;
+          some_p = o;
+          some_q = u;
+          most = found-most plant finer coarser rates p q coarser-below top least grows;
+          few = found-few plant finer coarser rates p q coarser-below top least grows o;
+        }
+
+    pub crossing-accepted : rate_ok p q ≡ true
+    crossing-accepted =
+        let l = least-is in
+        in-range (record { p_least = l.some_p; p_most = omega (arith, l.most); q_least = l.some_q; q_most = omega (arith, ok.most_devices, l.few) })
+
+    pub crossing-rate : (r : Reduced) → Reduction p q r → CrossingRate (plant_of n xs ys zs) finer coarser r.p r.q
+    unfolding plant_of
+    crossing-rate r reduced =
+        let l = least-is in
+        let same = reduced.same crossing-accepted in
+        let low = reduced.lowest crossing-accepted in
+        let x' = crossing-reduced p q r.p r.q l.some_q same l.crossing in
+        let u' = lowest-some-q p q r.p r.q l.some_p l.some_q same low in
+        let less : r.q ≤ q = lowest-least p q r.p r.q l.some_q same low in
+        let most : r.p ≤ 67107840 = omega (arith, l.most, lowest-most-p p q r.p r.q l.some_p l.some_q same low) in
+        record {
+          crossing = x';
+          lowest = low;
+          accepted = in-range (record {
+            p_least = found-positive plant ap aq bp bq finer coarser sound a r.p r.q u' x';
+            p_most = omega arith;
+            q_least = u';
+            q_most = omega (arith, ok.most_devices, l.few);
+          });
+          most = most;
+          few = omega (arith, l.few);
+        }
+
+-- a reduction that is not refused has a rate
+pub reduced-ok : (r : Result Rate Fault) → (reduce_told r).number ≡ 0 → IsOk r
+reduced-ok (Ok x) e = refl
+reduced-ok (Err f) e = absurd (fault-some f e)

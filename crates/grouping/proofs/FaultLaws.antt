@@ -8,11 +8,14 @@ use Prim.Native.Nat.{ℕ, ◌≤◌, ◌<◌}
 use native.Mathlib.Decide.{ℕ_discrete}
 use native.Mathlib.Omega.{arith}
 use borrow.Author.Tests.{le-ltb, lt-ltb}
-use Rattle.rules.specs.declared.Refusal.{Refusal}
+use Rattle.rules.specs.Refusal.{Refusal}
 use Rattle.rules.specs.Rates.{rate_ok}
 use Rattle.rules.specs.Refusals.{done, cause, or_else, first_of, rate_fault, room_fault, after_plant, about, nothing, plant_says, plant_fault}
 use Rattle.rules.specs.Accepted.{Accepted}
 use Rattle.rules.proofs.RefusalLaws.{done_next, call-is, call-plant, plant-clean, plant-accepted, accepted-done}
+use Rattle.rules.proofs.RangeLaws.{in-range}
+use Rattle.cut.specs.declared.plant.Plant as lists
+use Rattle.cut.specs.declared.rate.AcceptedRate.{AcceptedRate}
 use Rattle.cut.specs.Calls.{owners_fault}
 use Rattle.grouping.specs.Calls.{grouping_fault}
 
@@ -88,3 +91,10 @@ module _ (n : ℕ) (xs ys zs : List ℕ) (p q : ℕ) where
   pub grouping-done : Clear → (room : ℕ) → n ≤ room → grouping_fault n xs ys zs p q room ≡ done
   unfolding or_else cause done room_fault
   grouping-done c room h = grouping-is room ∙ call-room (room_fault n room) c ∙ rw (le-ltb room n h)
+
+-- a rate in range, and with an accepted plant
+pub rate-taken : (r : AcceptedRate) → rate_ok r.p r.q ≡ true
+rate-taken r = in-range (record { p_least = r.p_least; p_most = r.p_most; q_least = r.q_least; q_most = r.q_most })
+
+pub clear-at : (g : lists.Plant) (r : AcceptedRate) → Clear g.devices g.firsts.now g.seconds.now g.signals.now r.p r.q
+clear-at g r = cleared _ _ _ _ _ _ g.accepted (rate-taken r)

@@ -1,13 +1,13 @@
--- Lists with a number for each label, added up item by item: the sizes of groups, device by device, and their outs, line by line.
+-- Lists with a number for each label, added up item by item: the shares of devices, and the outs of groups, line by line.
 --     Tally      after k items each number is what it was before them and the sum of what they add to it
---     sized-..   the sizes
+--     sizes-shared  shares of 1 are the sizes
 --     outed-..   the outs
 -- Assumes nothing.
 use Prim.Native.Nat.{ℕ, ◌+◌, ◌*◌, ◌≤◌, ◌<◌}
 use mathlib.Core.Path.{◌≡◌, refl, sym, ap, ◌∙◌}
 use mathlib.Core.Bool.{Bool, true, false, cond}
 use mathlib.Core.List.{List}
-use native.Mathlib.Nat.{le_trans, add-zero, zero-add}
+use native.Mathlib.Nat.{le_trans, add-zero, zero-add, one-mul}
 use native.Mathlib.Numerals.{add-one}
 use native.Mathlib.Decide.{ℕ_discrete}
 use native.Mathlib.Omega.{arith}
@@ -17,13 +17,13 @@ use lib.Dec.{eqb}
 use lib.ListN.{length, get_or, set, replicate, length-set, length-replicate, get_or-replicate}
 use lib.Seq.{get_or-set_same, get_or-set_other}
 use borrow.Author.Tests.{eqb-true, eq-eqb, ne_eqb}
-use Rattle.rules.specs.Plant.{Plant, plant_of}
-use Rattle.rules.specs.Cut.{crossing, size, size_at}
+use Rattle.rules.specs.Plant.{plant_of}
+use Rattle.rules.specs.Cut.{crossing}
 use Rattle.rules.specs.Numbers.{sum}
 use Rattle.rules.specs.Accepted.{Accepted}
-use Rattle.rules.proofs.SetLaws.{cond-most}
 use Rattle.rules.proofs.PlantLaws.{crossing_most}
-use Rattle.rules.proofs.SumLaws.{sum-most, out-sum, below-sum}
+use Rattle.rules.proofs.SumLaws.{sum-most, out-sum}
+use Rattle.grouping.specs.Between.{Shared}
 use Rattle.grouping.specs.Stretch.{with_label, LabelsBelow, SizesOf, OutsOf}
 
 -- x more at place i
@@ -62,23 +62,10 @@ module _ {n : ℕ} {base : ℕ → ℕ} {f : ℕ → ℕ → ℕ} {list : List �
   pub tally-most : (b : ℕ) → ((h j : ℕ) → j < k → f h j ≤ b) → (h : ℕ) → h < n → get_or list h 0 ≤ base h + k * b
   tally-most b most h l = omega (arith, t.so_far h l, sum-most k (f h) b (most h))
 
--- what device v adds to the size of the group with label h
-abbrev pub size_of : List ℕ → ℕ → ℕ → ℕ
-size_of labels h v = cond (with_label labels h v) 1 0
-
-module _ (n : ℕ) (labels : List ℕ) {sizes : List ℕ} {v : ℕ} (t : Tally n none (size_of labels) sizes v) where
-  pub sized-most : (h : ℕ) → h < n → get_or sizes h 0 ≤ v
-  sized-most h l = omega (arith, tally-most t 1 (λ h j b. cond-most (with_label labels h j) 1) h l)
-
-  pub sized-next : get_or labels v 0 < 128 → Tally n none (size_of labels) (set sizes (get_or labels v 0) (get_or sizes (get_or labels v 0) 0 + 1)) (v + 1)
-  unfolding with_label
-  sized-next l = tally-next t (simp length-set) (λ h b. more-at sizes (get_or labels v 0) 1 h (omega (arith, t.wide)))
-
-  pub sized-done : n ≤ v → v ≤ n → (g : Plant) → g.devices ≡ n → SizesOf g labels sizes
-  unfolding size size_at
-  sized-done a b g e h l =
-      let same : v ≡ g.devices = omega arith in
-      t.so_far h (omega arith) ∙ zero-add _ ∙ ap (λ (m : ℕ). sum m (size_of labels h)) same ∙ sym (below-sum g g.devices (with_label labels h))
+-- shares of 1 are the sizes
+pub sizes-shared : (n : ℕ) (xs ys zs labels sizes : List ℕ) → Shared n 1 labels sizes → SizesOf (plant_of n xs ys zs) labels sizes
+unfolding with_label plant_of
+sizes-shared n xs ys zs labels sizes shared h l = shared (plant_of n xs ys zs) refl h l ∙ one-mul _
 
 -- what line l adds to the out of the group with label h
 abbrev pub out_of : List ℕ → List ℕ → List ℕ → List ℕ → ℕ → ℕ → ℕ
@@ -100,32 +87,24 @@ crossing-both s i j h ne = go (eqb i h) (eqb j h) refl refl
     go false true e f = omega arith
     go false false e f = refl
 
--- line l: its ends and their labels are devices, its signals few, and the numbers of its two labels at most top
+-- line l: the labels of its ends are devices, its signals few, and the numbers of its two labels at most top
 pub record LineFits (n : ℕ) (xs ys zs labels list : List ℕ) (l top : ℕ) : Type 0 where
-  pub first : get_or xs l 0 < n
-  pub second : get_or ys l 0 < n
   pub first_label : get_or labels (get_or xs l 0) 0 < n
   pub second_label : get_or labels (get_or ys l 0) 0 < n
   pub few : get_or zs l 0 ≤ 65535
   pub first_top : get_or list (get_or labels (get_or xs l 0) 0) 0 ≤ top
   pub second_top : get_or list (get_or labels (get_or ys l 0) 0) 0 ≤ top
-  pub in_seconds : l < length ys
-  pub in_signals : l < length zs
   pub most_lines : l < 1024
   pub most_devices : n ≤ 128
 
 pub line-fits : {n : ℕ} {xs ys zs : List ℕ} (labels list : List ℕ) (l top : ℕ) → Accepted n xs ys zs → LabelsBelow n labels → l < length xs
     → ((h : ℕ) → h < n → get_or list h 0 ≤ top) → LineFits n xs ys zs labels list l top
 line-fits {n} {xs} {ys} labels list l top a below b most = record {
-  first = a.first_device l b;
-  second = a.second_device l b;
   first_label = first_label;
   second_label = second_label;
   few = a.most_signals l b;
   first_top = most _ first_label;
   second_top = most _ second_label;
-  in_seconds = omega (arith, a.one_length);
-  in_signals = omega (arith, a.one_length, a.one_length');
   most_lines = omega (arith, a.most_lines);
   most_devices = a.most_devices;
 }
@@ -136,37 +115,13 @@ line-fits {n} {xs} {ys} labels list l top a below b most = record {
     second_label : get_or labels (get_or ys l 0) 0 < n
     second_label = below _ (a.second_device l b)
 
--- what the code asks of line l, of its ends and of their labels
+-- both labels of line l are entries of the list
 module _ {n : ℕ} {xs ys zs labels list : List ℕ} {l top : ℕ} (k : LineFits n xs ys zs labels list l top) where
-  pub line-place : Fits w64 (l * 8)
-  line-place = omega arith
-
-  pub line_after : Fits w64 (l + 1)
-  line_after = omega arith
-
-  pub first-in : get_or xs l 0 < 128
-  first-in = omega arith
-
-  pub first-place : Fits w64 (get_or xs l 0 * 8)
-  first-place = omega arith
-
-  pub second-in : get_or ys l 0 < 128
-  second-in = omega arith
-
-  pub second-place : Fits w64 (get_or ys l 0 * 8)
-  second-place = omega arith
-
   pub first-label-in : get_or labels (get_or xs l 0) 0 < 128
   first-label-in = omega arith
 
-  pub first-label-place : Fits w64 (get_or labels (get_or xs l 0) 0 * 8)
-  first-label-place = omega arith
-
   pub second-label-in : get_or labels (get_or ys l 0) 0 < 128
   second-label-in = omega arith
-
-  pub second-label-place : Fits w64 (get_or labels (get_or ys l 0) 0 * 8)
-  second-label-place = omega arith
 
 -- the signals of one more line still fit
 pub outed-sum : {x s l : ℕ} → x ≤ l * 65535 → l < 1024 → s ≤ 65535 → Fits w64 (x + s)

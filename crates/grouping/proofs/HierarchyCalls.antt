@@ -1,5 +1,5 @@
 -- The hierarchy call: the levels at the largest and at the least rate as the two ends of the search; what is filled in is the hierarchy; and its first fault, test by test.
---     two_ends, same_ends              the two levels at the ends differ, or there is only one grouping
+--     same_ends                        the two levels at the ends are one: there is only one grouping
 --     listed-sole, listed-all          what is filled in, with one level and with several
 --     call-..                          the first fault, test by test, and what the call answers
 -- Assumes nothing.
@@ -13,13 +13,12 @@ use native.Mathlib.Omega.{arith}
 use lib.Dec.{ltb}
 use lib.ListN.{length, get_or, drop, length-drop}
 use lib.Seq.{ext_get_or, get_or-drop}
-use borrow.Author.Tests.{ltb-false, le-ltb}
-use Rattle.rules.specs.declared.Refusal.{Refusal}
+use borrow.Author.Tests.{lt-ltb, le-ltb}
+use Rattle.rules.specs.Refusal.{Refusal}
 use Rattle.rules.specs.Plant.{Plant, plant_of}
 use Rattle.rules.specs.Accepted.{Sound, Accepted}
 use Rattle.rules.specs.Groups.{table, groups, distinct}
 use Rattle.rules.specs.Refusals.{done, cause, or_else, first_of, room_fault, after_plant, about, nothing, plant_says, plant_fault}
-use Rattle.rules.proofs.SetLaws.{or-off-left, or-off-right}
 use Rattle.rules.proofs.RefusalLaws.{done_next, call-is, call-plant, call-rest, accepted-sound}
 use Rattle.rules.proofs.OrderLaws.{le-or-below}
 use Rattle.rules.proofs.EndLaws.{top-accepted, bottom-accepted}
@@ -28,7 +27,7 @@ use Rattle.rules.proofs.LadderLaws.{hierarchy-of, hierarchy-sole}
 use Rattle.grouping.specs.declared.level.Level.{Level}
 use Rattle.grouping.specs.Calls.{row_of, hierarchy_fault, PastKept, Listed, HierarchyIs}
 use Rattle.grouping.specs.Level.{IsLevel}
-use Rattle.grouping.specs.Stretch.{SpanFrom, Span, Ready, KeptOutside, Searched}
+use Rattle.grouping.specs.Stretch.{Span, Ready, KeptOutside, Searched}
 use Rattle.grouping.proofs.RowLaws.{kept-join}
 use Rattle.grouping.proofs.SearchLaws.{labels-groups}
 use Rattle.grouping.proofs.EndCalls.{alone, ends-span}
@@ -69,9 +68,6 @@ module _ (n : ℕ) (xs ys zs : List ℕ) (a : Accepted n xs ys zs) where
 
     ends : (finest.groups ≡ coarsest.groups → ⊥) → Span g 100000000 1 1 1000 finest.labels finest.owner finest.groups coarsest.labels coarsest.groups
     ends other = ends-span f c (λ e. other (f.counted ∙ ap distinct e ∙ sym c.counted))
-
-    pub two_ends : (finest.groups ≡ coarsest.groups → ⊥) → SpanFrom (plant_of n xs ys zs) 100000000 1 finest.labels finest.owner finest.groups coarsest.labels coarsest.groups
-    two_ends other = (1, 1000, ends other)
 
     -- at every positive rate every device is alone
     same_ends : finest.groups ≡ coarsest.groups → (p q : ℕ) → 1 ≤ p → 1 ≤ q → groups g p q ≡ table n (λ v. v)
@@ -156,32 +152,37 @@ module _ (n : ℕ) (xs ys zs : List ℕ) (labels low_ps low_qs : List ℕ) where
       past : fault ≡ first_of (first_of (room_fault (n * n) (length labels) ∷ room_fault n (length low_ps) ∷ room_fault n (length low_qs) ∷ []) ∷ [])
       past = fault-is ∙ call-rest n xs ys zs _ (rw checked at ok)
 
-      pub call-short : (ltb (length labels) (n * n) || (ltb (length low_ps) n || ltb (length low_qs) n)) ≡ true
+      pub call-short : (length labels < n * n) ⊎ (length low_ps < n) ⊎ (length low_qs < n)
           → HierarchyIs n xs ys zs labels low_ps low_qs (record { number = 12; place = 0; levels = 0 }) labels low_ps low_qs
       unfolding first_of or_else cause done room_fault
-      call-short h = call-refused {r = record { number = 12; place = 0 }} (past ∙ short (ltb (length labels) (n * n)) (ltb (length low_ps) n) (ltb (length low_qs) n) h) (λ z. omega arith)
+      call-short h =
+          call-refused {r = record { number = 12; place = 0 }} (past ∙ short (ltb (length labels) (n * n)) (ltb (length low_ps) n) (ltb (length low_qs) n) (any h)) (λ z. omega arith)
         where
+          right : (u v : Bool) → v ≡ true → (u || v) ≡ true
+          right true v e = refl
+          right false v e = e
+
+          any : (length labels < n * n) ⊎ (length low_ps < n) ⊎ (length low_qs < n) → (ltb (length labels) (n * n) || (ltb (length low_ps) n || ltb (length low_qs) n)) ≡ true
+          any (inl a) = rw (lt-ltb _ _ a)
+          any (inr (inl b)) = right (ltb (length labels) (n * n)) _ (rw (lt-ltb _ _ b))
+          any (inr (inr c)) = right (ltb (length labels) (n * n)) _ (right (ltb (length low_ps) n) _ (lt-ltb _ _ c))
+
           short : (u v w : Bool) → (u || (v || w)) ≡ true → first_of (first_of (cause u 12 0 ∷ cause v 12 0 ∷ cause w 12 0 ∷ []) ∷ []) ≡ record { number = 12; place = 0 }
           short true v w e = refl
           short false true w e = refl
           short false false true e = refl
           short false false false e = absurd (false≢true e)
 
-      module _ (h : (ltb (length labels) (n * n) || (ltb (length low_ps) n || ltb (length low_qs) n)) ≡ false) where
-        pub call-rooms : (n * n ≤ length labels) × (n ≤ length low_ps) × (n ≤ length low_qs)
-        call-rooms = (
-          ltb-false _ _ (or-off-left _ _ h),
-          ltb-false _ _ (or-off-left _ _ (or-off-right (ltb (length labels) (n * n)) _ h)),
-          ltb-false _ _ (or-off-right (ltb (length low_ps) n) _ (or-off-right (ltb (length labels) (n * n)) _ h)),
-        )
-
-        pub call-filled : {labels' low_ps' low_qs' : List ℕ} {levels : ℕ} → Listed (plant_of n xs ys zs) levels labels low_ps low_qs labels' low_ps' low_qs'
-            → HierarchyIs n xs ys zs labels low_ps low_qs (record { number = 0; place = 0; levels = levels }) labels' low_ps' low_qs'
-        unfolding first_of or_else cause done room_fault
-        call-filled x = record {
-          refused = λ o. absurd (o (ap (λ (t : Refusal). t.number) room));
-          filled = λ z. (refl, refl, x);
-        }
-          where
-            room : fault ≡ done
-            room = past ∙ simp (le-ltb _ _ call-rooms.0, le-ltb _ _ call-rooms.1, le-ltb _ _ call-rooms.2)
+      -- what was filled in stands in the lent lists
+      pub call-filled : (n * n ≤ length labels) × (n ≤ length low_ps) × (n ≤ length low_qs)
+          → {filled low_ps' low_qs' : List ℕ} {levels : ℕ} → Listed (plant_of n xs ys zs) levels labels low_ps low_qs filled low_ps' low_qs'
+          → {labels'' low_ps'' low_qs'' : List ℕ} → labels'' ≡ filled → low_ps'' ≡ low_ps' → low_qs'' ≡ low_qs'
+          → HierarchyIs n xs ys zs labels low_ps low_qs (record { number = 0; place = 0; levels = levels }) labels'' low_ps'' low_qs''
+      unfolding first_of or_else cause done room_fault
+      call-filled rooms x a b c = rw (a, b, c) (record {
+        refused = λ o. absurd (o (ap (λ (t : Refusal). t.number) room));
+        filled = λ z. (refl, refl, x);
+      })
+        where
+          room : fault ≡ done
+          room = past ∙ simp (le-ltb _ _ rooms.0, le-ltb _ _ rooms.1, le-ltb _ _ rooms.2)

@@ -1,5 +1,6 @@
 -- Document 01, "What the contracts have to determine", of the hierarchy call and of the call for a joining rate.
---     hierarchy-call-determined, joining-determined   two results that the contract allows are equal
+--     hierarchy-call-determined, joining-determined   two answers that the contract allows are equal, by number, place and value
+--     hierarchy-result-determined, joining-result-determined   so are two results
 --     thirteen-exactly                                13 exactly if the devices never join
 --     listed-differ, listed-occurs, listed-every      the listed levels are "the number of distinct groupings"
 --     listed-connected                                the last level's groups are the connected parts
@@ -13,7 +14,11 @@ use native.Mathlib.Decide.{ℕ_discrete}
 use native.Mathlib.Omega.{arith}
 use lib.ListN.{length, get_or, take, drop, take-append-drop, length-take}
 use lib.Seq.{take-add, get_or-take, ext_get_or}
-use Rattle.rules.specs.declared.Refusal.{Refusal}
+use Rattle.std.specs.Prelude.{Result}
+use Rattle.rules.specs.Refusal.{Refusal}
+use Rattle.rules.specs.declared.Fault.{Fault}
+use Rattle.cut.specs.declared.rate.Rate.{Rate}
+use Rattle.grouping.proofs.Determined.{levels-told-same, joining-told-same}
 use Rattle.rules.specs.Plant.{Plant, plant_of}
 use Rattle.rules.specs.Accepted.{Sound, Accepted}
 use Rattle.rules.specs.Groups.{groups}
@@ -24,9 +29,7 @@ use Rattle.rules.proofs.RefusalLaws.{call-is, call-plant, plant-accepted, accept
 use Rattle.rules.proofs.EndLaws.{accepted-carries}
 use Rattle.rules.proofs.HierarchyLaws.{SameHierarchy, grouping-listed, each-occurs, all-differ, last-connected, hierarchy-determined}
 use Rattle.rules.proofs.JoinLaws.{joins-determined, joins-or-never}
-use Rattle.grouping.specs.declared.hierarchy.Levels.{Levels}
-use Rattle.grouping.specs.declared.joining.Joining.{Joining}
-use Rattle.grouping.specs.Calls.{row_of, hierarchy_fault, PastKept, Listed, HierarchyIs, pair_fault, JoiningIs}
+use Rattle.grouping.specs.Calls.{Levels, Joining, levels_told, joining_told, row_of, hierarchy_fault, PastKept, Listed, HierarchyIs, pair_fault, JoiningIs}
 
 -- lists that are equal before k and from k on
 parts-equal : (k : ℕ) (a b : List ℕ) → take k a ≡ take k b → drop k a ≡ drop k b → a ≡ b
@@ -104,6 +107,11 @@ hierarchy-call-determined {n} {xs} {ys} {zs} {labels} {low_ps} {low_qs} {r} {r''
         let v = b.refused h in
         (u.0 ∙ sym v.0, u.1 ∙ sym v.1, u.2 ∙ sym v.2, u.3 ∙ sym v.3)
 
+pub hierarchy-result-determined : {n : ℕ} {xs ys zs labels low_ps low_qs : List ℕ} {r r'' : Result ℕ Fault} {labels' low_ps' low_qs' labels'' low_ps'' low_qs'' : List ℕ}
+    → HierarchyIs n xs ys zs labels low_ps low_qs (levels_told r) labels' low_ps' low_qs' → HierarchyIs n xs ys zs labels low_ps low_qs (levels_told r'') labels'' low_ps'' low_qs''
+    → (r ≡ r'') × (labels' ≡ labels'') × (low_ps' ≡ low_ps'') × (low_qs' ≡ low_qs'')
+hierarchy-result-determined {r = r} {r'' = r''} a b = let same = hierarchy-call-determined a b in (levels-told-same r r'' same.0, same.1, same.2, same.3)
+
 same-joining : {a b c d a' b' c' d' : ℕ} → a ≡ a' → b ≡ b' → c ≡ c' → d ≡ d'
     → ◌≡◌ {A = Joining} (record { number = a; place = b; p = c; q = d }) (record { number = a'; place = b'; p = c'; q = d' })
 same-joining a b c d = rw (a, b, c, d)
@@ -129,6 +137,9 @@ joining-determined {n} {xs} {ys} {zs} {i} {j} {r} {r'} a b = go (ℕ_discrete (p
     go : Dec ((pair_fault n xs ys zs i j).number ≡ 0) → r ≡ r'
     go (yes z) = both (a.answered z) (b.answered z)
     go (no h) = a.refused h ∙ sym (b.refused h)
+
+pub joining-result-determined : {n : ℕ} {xs ys zs : List ℕ} {i j : ℕ} {r r' : Result Rate Fault} → JoiningIs n xs ys zs i j (joining_told r) → JoiningIs n xs ys zs i j (joining_told r') → r ≡ r'
+joining-result-determined {r = r} {r' = r'} a b = joining-told-same r r' (joining-determined a b)
 
 -- "refused with 13 exactly if no positive rate puts them in one group"
 pub thirteen-exactly : {n : ℕ} {xs ys zs : List ℕ} {i j : ℕ} {r : Joining} → JoiningIs n xs ys zs i j r → (pair_fault n xs ys zs i j).number ≡ 0

@@ -11,7 +11,7 @@ use native.Mathlib.Decide.{ℕ_discrete}
 use native.Mathlib.Omega.{arith}
 use lib.ListN.{get_or}
 use borrow.Author.Tests.{le-leb, lt-leb, eq-eqb, ne_eqb}
-use Rattle.rules.specs.declared.Refusal.{Refusal}
+use Rattle.rules.specs.Refusal.{Refusal}
 use Rattle.rules.specs.Plant.{Plant, plant_of}
 use Rattle.rules.specs.Accepted.{Sound, Accepted}
 use Rattle.rules.specs.Groups.{label}
@@ -24,9 +24,9 @@ use Rattle.rules.proofs.JoinLaws.{joins_of, never-of}
 use Rattle.grouping.specs.declared.level.Level.{Level}
 use Rattle.grouping.specs.Calls.{pair_fault, JoiningIs}
 use Rattle.grouping.specs.Level.{IsLevel, Between}
-use Rattle.grouping.specs.Stretch.{CrossingRate, Apart, Span, SomeLevels}
+use Rattle.grouping.specs.Stretch.{CrossingRate, Span, SomeLevels}
 use Rattle.grouping.proofs.HalfLaws.{half-rate, half-last}
-use Rattle.grouping.proofs.SearchLaws.{some-apart, some-between, some-finer, some-coarser, some-fewer}
+use Rattle.grouping.proofs.SearchLaws.{some-between, some-finer, some-coarser, some-fewer}
 use Rattle.grouping.proofs.EndCalls.{alone-label, ends-span}
 
 -- plant and devices are accepted
@@ -105,20 +105,16 @@ pub record Parted (g : Plant) (i j : ℕ) (finer coarser : Level) : Type 0 where
   pub together : get_or coarser.labels i 0 ≡ get_or coarser.labels j 0
 
 module _ {g : Plant} {i j : ℕ} {finer coarser : Level} (known : Parted g i j finer coarser) where
-  -- what the search for the crossing rate asks
-  pub turn-apart : (ap : ℕ) × (aq : ℕ) × (bp : ℕ) × (bq : ℕ) × Apart g ap aq bp bq finer.labels coarser.labels
-  turn-apart = some-apart g known.levels.0
-
   module _ {p q : ℕ} (s : Sound g) (x : CrossingRate g finer.labels coarser.labels p q) where
-    -- and that for the level there
+    -- what the search for the level at the crossing rate asks
     pub turn-between : Between g p q finer.owner coarser.labels
-    turn-between = some-between g s known.levels.0 x
+    turn-between = some-between g s known.levels x
 
     module _ {middle : Level} (level : IsLevel g p q middle) where
       -- as many groups as the finer level: the devices join here
       pub turn_last : i < g.devices → j < g.devices → middle.groups ≡ finer.groups → JoinsAt g i j p q
       turn_last hi hj e =
-          let (ap, aq, bp, bq, span) = known.levels.0 in
+          let (ap, aq, bp, bq, span) = known.levels in
           let rate = half-rate s span x in
           let last = half-last s span x (sym e ∙ level.counted) in
           let fine = span.apart.finer_is in
@@ -129,14 +125,14 @@ module _ {g : Plant} {i j : ℕ} {finer coarser : Level} (known : Parted g i j f
 
       module _ (other : middle.groups ≡ finer.groups → ⊥) where
         pub turn-fewer : (coarser.groups < middle.groups) × (middle.groups < finer.groups)
-        turn-fewer = some-fewer g s x level other known.levels.0
+        turn-fewer = some-fewer g s x level other known.levels
 
         -- otherwise they come together in the upper half or in the lower one
         pub turn-upper : get_or middle.labels i 0 ≡ get_or middle.labels j 0 → Parted g i j finer middle
-        turn-upper e = record { levels = (some-finer g s x level other known.levels.0, level.wide); apart = known.apart; together = e }
+        turn-upper e = record { levels = some-finer g s x level other known.levels; apart = known.apart; together = e }
 
         pub turn-lower : (get_or middle.labels i 0 ≡ get_or middle.labels j 0 → ⊥) → Parted g i j middle coarser
-        turn-lower h = record { levels = (some-coarser g s x level other known.levels.0, known.levels.1); apart = h; together = known.together }
+        turn-lower h = record { levels = some-coarser g s x level other known.levels; apart = h; together = known.together }
 
 module _ (n : ℕ) (xs ys zs : List ℕ) (i j : ℕ) where
   abbrev g : Plant
@@ -182,7 +178,7 @@ module _ (n : ℕ) (xs ys zs : List ℕ) (i j : ℕ) where
         pub start-parted : get_or coarsest.labels i 0 ≡ get_or coarsest.labels j 0 → Parted (plant_of n xs ys zs) i j finest coarsest
         unfolding plant_of
         start-parted e = record {
-          levels = ((100000000, 1, 1, 1000, span), bottom.wide);
+          levels = (100000000, 1, 1, 1000, span);
           apart = λ c. parted (sym (top.labelled i join-pair.first) ∙ c ∙ top.labelled j join-pair.second);
           together = e;
         }

@@ -10,8 +10,6 @@ use native.Mathlib.Nat.{mul-zero, mul-add, mul-le-mul, add-zero}
 use native.Mathlib.Numerals.{add-one}
 use native.Mathlib.Decide.{ℕ_discrete}
 use native.Mathlib.Omega.{arith}
-use mir.Syntax.{w64}
-use mir.Val.{Fits}
 use lib.Dec.{eqb}
 use lib.ListN.{length, get_or, set}
 use lib.Seq.{get_or-set_same, get_or-set_other}
@@ -21,7 +19,7 @@ use Rattle.rules.specs.Numbers.{sum}
 use Rattle.rules.specs.Accepted.{Accepted}
 use Rattle.rules.proofs.SetLaws.{cond-most}
 use Rattle.rules.proofs.SumLaws.{sum-agree, sum-change}
-use Rattle.grouping.specs.Between.{NodesBelow, inner_part, cut_of, WidthsBelow, LinePut, Joined}
+use Rattle.grouping.specs.Between.{NodesBelow, inner_part, cut_of, LinePut, Joined}
 use Rattle.grouping.proofs.GroupSums.{more, more-at, crossing-none}
 
 crossing-scaled : (q s : ℕ) (a b : Bool) → crossing (q * s) a b ≡ q * crossing s a b
@@ -115,45 +113,6 @@ module _ (width x y : ℕ) (lower upper widths : List ℕ) (m : ℕ) where
     cut = λ N. p.cut N ∙ ap (λ (c : ℕ). cut_of lower upper widths N m + c) (crossing-turned width (N y) (N x));
   }
 
--- line l of the plant: its ends and their nodes are devices, its width is small, and there is room for it in the widths of the m lines that were
-pub record LineJoins (n : ℕ) (xs ys zs : List ℕ) (q : ℕ) (node : List ℕ) (l : ℕ) (widths : List ℕ) (m : ℕ) : Type 0 where
-  pub first : get_or xs l 0 < n
-  pub second : get_or ys l 0 < n
-  pub first_node : get_or node (get_or xs l 0) 0 < n
-  pub second_node : get_or node (get_or ys l 0) 0 < n
-  pub in_seconds : l < length ys
-  pub in_signals : l < length zs
-  pub most_lines : m < 1024
-  pub most_devices : n ≤ 128
-  pub few : q * get_or zs l 0 ≤ 65535000
-  pub room : WidthsBelow m widths
-
--- what the code asks of line l, of its ends and of their nodes
-module _ {n : ℕ} {xs ys zs : List ℕ} {q : ℕ} {node : List ℕ} {l : ℕ} {widths : List ℕ} {m : ℕ} (k : LineJoins n xs ys zs q node l widths m) where
-  pub end-in : get_or xs l 0 < 128
-  end-in = omega arith
-
-  pub end-place : Fits w64 (get_or xs l 0 * 8)
-  end-place = omega arith
-
-  pub other-end-in : get_or ys l 0 < 128
-  other-end-in = omega arith
-
-  pub other-end-place : Fits w64 (get_or ys l 0 * 8)
-  other-end-place = omega arith
-
-  pub node_in : get_or node (get_or xs l 0) 0 < 128
-  node_in = omega arith
-
-  pub node-place : Fits w64 (get_or node (get_or xs l 0) 0 * 8)
-  node-place = omega arith
-
-  pub other-node-in : get_or node (get_or ys l 0) 0 < 128
-  other-node-in = omega arith
-
-  pub other-node-place : Fits w64 (get_or node (get_or ys l 0) 0 * 8)
-  other-node-place = omega arith
-
 module _ (n : ℕ) (xs ys zs : List ℕ) (q : ℕ) (node wall : List ℕ) where
   pub joined-start : (lower upper widths : List ℕ) → Joined n xs ys zs q node wall 0 lower upper widths 0
   unfolding sum
@@ -192,29 +151,15 @@ module _ (n : ℕ) (xs ys zs : List ℕ) (q : ℕ) (node wall : List ℕ) where
     pub joined-outside : (get_or wall x 0 ≡ get_or wall y 0 → ⊥) → Joined n xs ys zs q node wall (l + 1) lower upper widths m
     joined-outside ne = left_out (λ N. rw (ne_eqb (get_or wall x 0) (get_or wall y 0) ne))
 
-    pub line_joins : Accepted n xs ys zs → NodesBelow n node → q ≤ 1000 → l < length xs → LineJoins n xs ys zs q node l widths m
-    line_joins a below small b = record {
-      first = a.first_device l b;
-      second = a.second_device l b;
-      first_node = below _ (a.first_device l b);
-      second_node = below _ (a.second_device l b);
-      in_seconds = omega (arith, a.one_length);
-      in_signals = omega (arith, a.one_length, a.one_length');
-      most_lines = omega (arith, a.most_lines, j.few);
-      most_devices = a.most_devices;
-      few = mul-le-mul small (a.most_signals l b);
-      room = λ i c. omega (arith, a.most_lines, j.width i c);
-    }
-
-    pub joined-put : LineJoins n xs ys zs q node l widths m → get_or wall x 0 ≡ get_or wall y 0 → {lower' upper' widths' : List ℕ} {r : ℕ}
+    pub joined-put : Accepted n xs ys zs → NodesBelow n node → q ≤ 1000 → l < length xs → get_or wall x 0 ≡ get_or wall y 0 → {lower' upper' widths' : List ℕ} {r : ℕ}
         → LinePut (q * z) x y lower upper widths m lower' upper' widths' r
         → Joined n xs ys zs q node wall (l + 1) lower' upper' widths' r
     unfolding sum
-    joined-put k e p = record {
+    joined-put a below small b e p = record {
       few = omega (arith, j.few, p.few);
       rising = p.rising j.rising;
-      ends = p.ends n k.first_node k.second_node j.ends;
-      width = λ i b. omega (arith, p.width_most (l * 65535000) j.width i b, k.few);
+      ends = p.ends n (below _ (a.first_device l b)) (below _ (a.second_device l b)) j.ends;
+      width = λ i c. omega (arith, p.width_most (l * 65535000) j.width i c, mul-le-mul small (a.most_signals l b));
       cut = λ N.
           p.cut N
           ∙ ap₂ ◌+◌ (j.cut N) (crossing-scaled q z (N x) (N y))

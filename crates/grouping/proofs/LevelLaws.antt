@@ -5,7 +5,7 @@ use mathlib.Core.Path.{◌≡◌, refl, sym, ◌∙◌, ap}
 use mathlib.Core.Bool.{Bool, true}
 use mathlib.Core.List.{List}
 use Prim.Native.Nat.{ℕ, ◌≤◌, ◌<◌}
-use lib.ListN.{length, get_or, replicate, length-replicate}
+use lib.ListN.{get_or, replicate}
 use Rattle.rules.specs.Plant.{Plant}
 use Rattle.rules.specs.Accepted.{Sound}
 use Rattle.rules.specs.Cut.{size}
@@ -21,7 +21,7 @@ use Rattle.rules.proofs.Sweep.{sweep-owner, sweep-self, sweep-group, sweep-label
 use Rattle.rules.proofs.Instance.{family}
 use Rattle.rules.specs.Lists.{over}
 use Rattle.cut.specs.Calls.{owners_of}
-use Rattle.rules.proofs.FillLaws.{over-front, over-size}
+use Rattle.rules.proofs.FillLaws.{over-front}
 use Rattle.grouping.specs.Level.{first_with, Owned, IsLevel, Swept, Between}
 
 module _ (g : Plant) (p q : ℕ) where
@@ -64,14 +64,13 @@ module _ (g : Plant) (p q : ℕ) where
     pub swept-groups : table g.devices (first_with g.devices owner) ≡ groups g p q
     swept-groups = owners-groups fam swept.wanted swept.covers owner swept.owns
 
-    pub swept-level : {labels : List ℕ} {count : ℕ} → g.devices ≤ 128
+    pub swept-level : {labels : List ℕ} {count : ℕ}
         → labels ≡ over (table g.devices (first_with g.devices owner)) (replicate 128 0) → count ≡ distinct (table g.devices (first_with g.devices owner))
         → IsLevel g p q (record { labels = labels; owner = owner; groups = count })
-    swept-level few b d = record {
+    swept-level b d = record {
       labelled = λ v h. ap (λ (l : List ℕ). get_or l v 0) (b ∙ ap (λ (l : List ℕ). over l (replicate 128 0)) swept-groups) ∙ (unfold groups in over-front n (label g p q) (replicate 128 0) v h);
       counted = d ∙ ap distinct swept-groups;
       owned = owners-owned fam swept.wanted swept.covers owner swept.owns;
-      wide = ap length b ∙ over-size n (first_with n owner) (replicate 128 0) (rw (length-replicate {A = ℕ} 128 0) few) ∙ length-replicate {A = ℕ} 128 0;
     }
 
 -- every device is gone through

@@ -1,5 +1,5 @@
 -- The laws behind the grouping part.
---     FitLaws     an index and a count fit in a word
+--     FitLaws     a product fits in a word, and what turns of loops ask
 --     OwnerLaws   labels from owners in one pass
 --     MarkLaws    the marks of the devices that own themselves
 --     FaultLaws   the first fault of the grouping call
@@ -7,7 +7,7 @@
 --     BetweenLaws the network between two levels
 --     JoinNetLaws the lines of that network
 --     DrainLaws   the drains of that network
---     GroupSums   the sizes and outs of groups, added up by their labels
+--     GroupSums   lists with a number for each label, added up: shares, sizes and outs of groups
 --     BestLaws    the greatest crossing rate of each coarser group, and the least of these
 --     SearchLaws  the recursive search between two levels, on plain lists
 --     CrossLaws   the crossing rate from the greatest rate of each coarser label and the least of these

@@ -2,7 +2,7 @@
 -- Assumes nothing.
 use Prim.Native.Nat.{ℕ, ◌+◌, ◌-◌, ◌*◌, ◌≤◌, ◌<◌}
 use mathlib.Core.Path.{◌≡◌, sym, ap, ◌∙◌}
-use mathlib.Core.Bool.{true, ◌||◌}
+use mathlib.Core.Bool.{true, false, ◌||◌, false≢true}
 use mathlib.Core.List.{List, []}
 use native.Mathlib.Nat.{add-sub_cancel_left}
 use native.Mathlib.Decide.{ℕ_discrete, dec_lt}
@@ -10,11 +10,24 @@ use native.Mathlib.Omega.{arith}
 use lib.Dec.{leb, ltb}
 use lib.ListN.{length, take, drop}
 use borrow.Author.Tests.{eq-eqb, ne_eqb, le-leb, lt-leb, le-ltb, lt-ltb}
-use Rattle.rules.specs.declared.Refusal.{Refusal}
+use Rattle.std.specs.Prelude.{Result, Ok, Err, is_err}
+use Rattle.rules.specs.Refusal.{Refusal}
+use Rattle.rules.specs.Faults.{refusal_of, told}
+use Rattle.rules.specs.declared.Fault.{Fault}
+use Rattle.rules.proofs.FaultLaws.{fault-not-0, first-fault}
 use Rattle.rules.specs.Refusals.{done, cause, or_else, first_of, devices_fault, level_fault, room_fault, after_plant, fixed_order, in_order, nothing, about}
 use Rattle.rules.proofs.RefusalLaws.{done_next, or_else-done, clean-cause}
 use Rattle.grouping.specs.Calls.{row_of, row_fault, row_shown}
 use Rattle.grouping.proofs.RowLaws.{row_room, row-length}
+
+-- what is told of an answer that is an error, and of one that is none
+pub told-refused : (r : Result Unit Fault) {f : Refusal} → told r ≡ f → is_err r ≡ true → f.number ≡ 0 → ⊥
+told-refused (Ok x) e h = absurd (false≢true h)
+told-refused (Err f) e h = fault-not-0 f e
+
+pub told-done : (r : Result Unit Fault) {f : Refusal} → told r ≡ f → is_err r ≡ false → f.number ≡ 0
+told-done (Ok x) e h = ap (λ (t : Refusal). t.number) (sym e)
+told-done (Err f) e h = absurd (false≢true (sym h))
 
 module _ (labels : List ℕ) (n levels k : ℕ) where
   -- what is accepted
@@ -30,11 +43,14 @@ module _ (labels : List ℕ) (n levels k : ℕ) where
   unfolding row_fault about nothing in_order fixed_order after_plant first_of room_fault
   row_is = simp done_next (ap (λ (r : Refusal). or_else (devices_fault n) (or_else (level_fault n levels k) r)) (or_else-done _ (clean-cause _ 11 0)))
 
-  pub row-1 : n ≡ 0 → row_fault labels n levels k ≡ record { number = 1; place = 0 }
+  pub row-devices : (f : Fault) → refusal_of f ≡ devices_fault n → refusal_of f ≡ row_fault labels n levels k
+  row-devices f e = first-fault f _ e ∙ sym row_is
+
+  row-1 : n ≡ 0 → row_fault labels n levels k ≡ record { number = 1; place = 0 }
   unfolding first_of or_else cause done devices_fault
   row-1 e = row_is ∙ rw (eq-eqb n 0 e)
 
-  pub row-2 : 128 < n → row_fault labels n levels k ≡ record { number = 2; place = 0 }
+  row-2 : 128 < n → row_fault labels n levels k ≡ record { number = 2; place = 0 }
   unfolding first_of or_else cause done devices_fault
   row-2 h = row_is ∙ rw (ne_eqb n 0 (λ e. omega arith), lt-ltb 128 n h)
 

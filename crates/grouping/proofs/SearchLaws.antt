@@ -7,25 +7,20 @@
 --     some-..         what two known levels are enough for
 --     from-.., from_some the same where the finer one's rate is given
 --     labels-groups   a list of labels as the groups at its rate
---     same_numbers    the test of two rates, number by number
 -- Assumes nothing.
 use Prim.Native.Nat.{ℕ, suc, ◌+◌, ◌*◌, ◌≤◌, ◌<◌}
 use mathlib.Core.Path.{◌≡◌, sym, ap, subst, ◌∙◌}
-use mathlib.Core.Bool.{Bool, true, ◌&&◌}
 use mathlib.Core.List.{List}
 use mathlib.Core.Logic.{⊎_elim}
 use native.Mathlib.Nat.{mul-le-mul_right, suc-mul, le_refl, le_of_lt, le_antisymm, le_of_suc-le-suc}
 use native.Mathlib.Omega.{arith}
-use lib.Dec.{eqb}
 use lib.ListN.{length, get_or, set}
 use lib.Seq.{get_or-set_same}
-use borrow.Author.Tests.{eqb-true}
 use Rattle.rules.specs.Plant.{Plant}
 use Rattle.rules.specs.Accepted.{Sound}
 use Rattle.rules.specs.Groups.{table, label, groups, distinct}
 use Rattle.rules.specs.Rates.{Below}
 use Rattle.rules.specs.Stretch.{Ladder}
-use Rattle.rules.proofs.SetLaws.{and_left, and_right}
 use Rattle.rules.proofs.OrderLaws.{le-or-below}
 use Rattle.rules.proofs.LabelLaws.{table-agree}
 use Rattle.rules.proofs.LevelLaws.{fewer, some-group}
@@ -33,15 +28,9 @@ use Rattle.rules.proofs.LadderLaws.{ladder-join, ladder-step, ladder-same}
 use Rattle.grouping.specs.Calls.{row_of}
 use Rattle.grouping.specs.declared.level.Level.{Level}
 use Rattle.grouping.specs.Level.{Labelled, IsLevel, Between}
-use Rattle.grouping.specs.Stretch.{Apart, CrossingRate, Span, SpanFrom, SomeSpan, Ready, KeptOutside, Settled, Searched}
+use Rattle.grouping.specs.Stretch.{CrossingRate, Span, SpanFrom, SomeSpan, Ready, KeptOutside, Settled, Searched}
 use Rattle.grouping.proofs.RowLaws.{kept-join, kept_set, row_kept}
 use Rattle.grouping.proofs.HalfLaws.{half-rate, half-between, half-last, half-finer, half-coarser, half-fewer}
-
--- the test of two rates, number by number
-pub same_numbers : {r : Bool} {p q p' q' : ℕ} → r ≡ (eqb p p' && eqb q q') → r ≡ true → (p ≡ p') × (q ≡ q')
-same_numbers {r} {p} {q} {p'} {q'} e t =
-    let both : (eqb p p' && eqb q q') ≡ true = sym e ∙ t in
-    (eqb-true p p' (and_left (eqb p p') (eqb q q') both), eqb-true q q' (and_right (eqb p p') (eqb q q') both))
 
 module _ (g : Plant) where
   abbrev n : ℕ
@@ -193,11 +182,7 @@ module _ (g : Plant) where
       Searched g.devices g finer owner fine coarser coarse at to labels low_ps low_qs labels' low_ps' low_qs'
   search-known s from x (ep, eq) ready put = search-last s (from_some from) (rw (ep, eq) at x) from.2.finer_count ready put
 
-  -- what the crossing rate asks of two known levels, and what the level there asks
-  pub some-apart : {finer owner coarser : List ℕ} {fine coarse : ℕ} → SomeSpan g finer owner fine coarser coarse
-      → (ap : ℕ) × (aq : ℕ) × (bp : ℕ) × (bq : ℕ) × Apart g ap aq bp bq finer coarser
-  some-apart (ap, aq, bp, bq, span) = (ap, aq, bp, bq, span.apart)
-
+  -- what the level at the crossing rate asks of two known levels
   pub some-between : {finer owner coarser : List ℕ} {fine coarse p q : ℕ} → Sound g → SomeSpan g finer owner fine coarser coarse → CrossingRate g finer coarser p q
       → Between g p q owner coarser
   some-between s (ap, aq, bp, bq, span) x = half-between s span x

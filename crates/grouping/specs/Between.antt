@@ -1,6 +1,6 @@
 -- The network between two levels, as the functions that make it say it to each other. No public contract cites this file.
 -- Assumes nothing.
-use Rattle.std.specs.Prelude.{ℕ, ◌+◌, ◌*◌, ◌≤◌, ◌<◌, ◌≡◌, cond, List, eqb, length, get_or}
+use Rattle.std.specs.Prelude.{ℕ, ◌+◌, ◌*◌, ◌≤◌, ◌<◌, ◌≡◌, cond, List, eqb, get_or}
 use Rattle.rules.specs.Plant.{Plant}
 use Rattle.rules.specs.Cut.{Devices, crossing, size}
 use Rattle.rules.specs.Numbers.{sum}
@@ -50,12 +50,3 @@ pub record Drained (g : Plant) (p q : ℕ) (node wall drains : List ℕ) : Type 
   pub drain : (x : ℕ) → x < g.devices
       → get_or drains x 0 ≡ p * size g (λ v. eqb (get_or node v 0) x) + q * outer_signals (λ v. get_or node v 0) (λ i. get_or wall i 0) g.lines x
   pub most : (x : ℕ) → x < g.devices → get_or drains x 0 ≤ 2000000000000
-
--- lists of 1,024 lines and of 128 nodes
-pub record Wide (lower upper widths drains wanted held : List ℕ) : Type 0 where
-  pub lowers : length lower ≡ 1024
-  pub uppers : length upper ≡ 1024
-  pub width : length widths ≡ 1024
-  pub drain : length drains ≡ 128
-  pub want : length wanted ≡ 128
-  pub hold : length held ≡ 128

@@ -1,15 +1,47 @@
 -- What the public calls answer and what they leave in the lent lists: document 01, "What a call fills", "Levels and joining rates" and "Refusal numbers".
 -- Assumes nothing.
-use Rattle.std.specs.Prelude.{ℕ, suc, ◌-◌, ◌*◌, ◌≤◌, ◌<◌, ◌≡◌, cond, List, [], ◌∷◌, ◌⊎◌, eqb, length, get_or, take, drop}
-use Rattle.rules.specs.declared.Refusal.{Refusal}
+use Rattle.std.specs.Prelude.{ℕ, suc, ◌-◌, ◌*◌, ◌≤◌, ◌<◌, ◌≡◌, cond, List, [], ◌∷◌, ◌⊎◌, eqb, length, get_or, take, drop, Result, Ok, Err}
+use Rattle.rules.specs.Refusal.{Refusal}
 use Rattle.rules.specs.Plant.{Plant, plant_of}
 use Rattle.rules.specs.Groups.{groups, distinct}
 use Rattle.rules.specs.Hierarchy.{IsHierarchy, JoinsAt, NeverJoin}
 use Rattle.rules.specs.Refusals.{first_of, devices_fault, rate_fault, device_fault, self_fault, level_fault, room_fault, of_devices, of_rate, of_device, of_self, of_level, of_room, in_order, nothing, about, plant_says}
 use Rattle.rules.specs.Lists.{after}
-use Rattle.grouping.specs.declared.grouping.Grouping.{Grouping}
-use Rattle.grouping.specs.declared.hierarchy.Levels.{Levels}
-use Rattle.grouping.specs.declared.joining.Joining.{Joining}
+use Rattle.rules.specs.Faults.{refusal_of}
+use Rattle.rules.specs.declared.Fault.{Fault}
+use Rattle.cut.specs.declared.rate.Rate.{Rate}
+
+-- the answer of the grouping call: number and place, and the number of groups
+pub record Grouping : Type 0 where
+  pub number : ℕ
+  pub place : ℕ
+  pub groups : ℕ
+
+-- the answer of the hierarchy call: number and place, and the number of levels
+pub record Levels : Type 0 where
+  pub number : ℕ
+  pub place : ℕ
+  pub levels : ℕ
+
+-- the answer of the call for a joining rate: number and place, and the rate p/q
+pub record Joining : Type 0 where
+  pub number : ℕ
+  pub place : ℕ
+  pub p : ℕ
+  pub q : ℕ
+
+-- "For every answer that is an enum, a definition gives this paper's number and values for each case of the enum."
+abbrev pub grouping_told : Result ℕ Fault → Grouping
+grouping_told (Ok m) = record { number = 0; place = 0; groups = m }
+grouping_told (Err f) = record { number = (refusal_of f).number; place = (refusal_of f).place; groups = 0 }
+
+abbrev pub levels_told : Result ℕ Fault → Levels
+levels_told (Ok m) = record { number = 0; place = 0; levels = m }
+levels_told (Err f) = record { number = (refusal_of f).number; place = (refusal_of f).place; levels = 0 }
+
+abbrev pub joining_told : Result Rate Fault → Joining
+joining_told (Ok r) = record { number = 0; place = 0; p = r.p; q = r.q }
+joining_told (Err f) = record { number = (refusal_of f).number; place = (refusal_of f).place; p = 0; q = 0 }
 
 -- the grouping call: 1 to 8, then 9, and 12 for labels shorter than n
 unfoldable pub grouping_fault : ℕ → List ℕ → List ℕ → List ℕ → ℕ → ℕ → ℕ → Refusal

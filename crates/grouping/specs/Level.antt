@@ -1,6 +1,6 @@
 -- A level of the hierarchy as a value: its labels, its number of groups, and for each device one whose community is its group. No public contract cites this file.
 -- Assumes nothing.
-use Rattle.std.specs.Prelude.{ℕ, ◌*◌, ◌≤◌, ◌<◌, ◌≡◌, Bool, true, List, eqb, length, get_or}
+use Rattle.std.specs.Prelude.{ℕ, ◌*◌, ◌≤◌, ◌<◌, ◌≡◌, Bool, true, List, eqb, get_or}
 use Rattle.rules.specs.Plant.{Plant}
 use Rattle.rules.specs.Sets.{Agree}
 use Rattle.rules.specs.Community.{community}
@@ -28,7 +28,6 @@ pub record IsLevel (g : Plant) (p q : ℕ) (level : Level) : Type 0 where
   pub labelled : Labelled g p q level.labels
   pub counted : level.groups ≡ distinct (groups g p q)
   pub owned : Owned g p q level.owner
-  pub wide : length level.labels ≡ 128
 
 -- the owners that going once through the wanted devices leaves, each device lying in the community of a wanted one
 pub record Swept (g : Plant) (p q : ℕ) (owner : List ℕ) : Type 0 where

@@ -6,7 +6,9 @@ use Rattle.rules.specs.Cut.{Devices, size, out}
 use Rattle.rules.specs.Groups.{table, groups, distinct}
 use Rattle.rules.specs.Rates.{rate_ok, Below, Lowest}
 use Rattle.rules.specs.Stretch.{Crossing, Ladder}
+use Rattle.cut.specs.declared.rate.Rate.{Rate}
 use Rattle.grouping.specs.declared.level.Level.{Level}
+use Rattle.grouping.specs.declared.hierarchy.Lent.{Lent}
 use Rattle.grouping.specs.Calls.{row_of}
 use Rattle.grouping.specs.Level.{Labelled, Owned}
 
@@ -29,6 +31,15 @@ SizesOf g labels sizes = (h : ℕ) → h < g.devices → get_or sizes h 0 ≡ si
 abbrev pub OutsOf : Plant → List ℕ → List ℕ → Type 0
 OutsOf g labels outs = (h : ℕ) → h < g.devices → get_or outs h 0 ≡ out g.lines (with_label labels h)
 
+-- size and out of each label's group are those that the two lists say
+pub record ExtentsOf (g : Plant) (labels sizes outs : List ℕ) : Type 0 where
+  pub size_is : SizesOf g labels sizes
+  pub out_is : OutsOf g labels outs
+
+-- the rate of label h in a list with a rate for each label
+abbrev pub rate_at : List Rate → ℕ → Rate
+rate_at rates h = get_or rates h (record { p = 0; q = 0 })
+
 -- the finer group of v is smaller than the coarser group around it
 abbrev pub Grows : Plant → List ℕ → List ℕ → ℕ → Type 0
 Grows g finer coarser v = size g (sharing finer v) < size g (sharing coarser v)
@@ -48,11 +59,11 @@ pub record Greatest (g : Plant) (finer coarser : List ℕ) (h k p q : ℕ) : Typ
   pub top : (v : ℕ) → v < k → get_or coarser v 0 ≡ h → Grows g finer coarser v → cross_p g finer coarser v * q ≤ p * cross_q g finer coarser v
   pub got : (p ≡ 0) ⊎ ((v : ℕ) × (v < k) × (get_or coarser v 0 ≡ h) × Grows g finer coarser v × (p ≡ cross_p g finer coarser v) × (q ≡ cross_q g finer coarser v))
 
--- p/q is the least of the rates ps/qs of the coarser groups of the devices below k that grow, or 1/0 where none does
-pub record LeastOf (g : Plant) (finer coarser ps qs : List ℕ) (k p q : ℕ) : Type 0 where
-  pub bottom : (v : ℕ) → v < k → Grows g finer coarser v → p * get_or qs (get_or coarser v 0) 0 ≤ get_or ps (get_or coarser v 0) 0 * q
+-- p/q is the least of the rates of the coarser groups of the devices below k that grow, or 1/0 where none does
+pub record LeastOf (g : Plant) (finer coarser : List ℕ) (rates : List Rate) (k p q : ℕ) : Type 0 where
+  pub bottom : (v : ℕ) → v < k → Grows g finer coarser v → p * (rate_at rates (get_or coarser v 0)).q ≤ (rate_at rates (get_or coarser v 0)).p * q
   pub got : ((p ≡ 1) × (q ≡ 0) × ((v : ℕ) → v < k → Grows g finer coarser v → ⊥))
-      ⊎ ((v : ℕ) × (v < k) × Grows g finer coarser v × (p ≡ get_or ps (get_or coarser v 0) 0) × (q ≡ get_or qs (get_or coarser v 0) 0))
+      ⊎ ((v : ℕ) × (v < k) × Grows g finer coarser v × (p ≡ (rate_at rates (get_or coarser v 0)).p) × (q ≡ (rate_at rates (get_or coarser v 0)).q))
 
 -- the crossing rate between two levels, in lowest terms
 pub record CrossingRate (g : Plant) (finer coarser : List ℕ) (p q : ℕ) : Type 0 where
@@ -90,8 +101,7 @@ SomeSpan g finer owner fine coarser coarse = (ap : ℕ) × (aq : ℕ) × (bp : �
 
 -- the same of two levels as values
 abbrev pub SomeLevels : Plant → Level → Level → Type 0
-SomeLevels g finer coarser =
-    SomeSpan g finer.labels finer.owner finer.groups coarser.labels coarser.groups × (length coarser.labels ≡ 128)
+SomeLevels g finer coarser = SomeSpan g finer.labels finer.owner finer.groups coarser.labels coarser.groups
 
 -- the lent lists have room for every level, and row `at` holds the finer level
 pub record Ready (n : ℕ) (finer : List ℕ) (fine at : ℕ) (labels low_ps low_qs : List ℕ) : Type 0 where
@@ -106,6 +116,10 @@ pub record KeptOutside (from to : ℕ) (old new : List ℕ) : Type 0 where
   pub length_same : length new ≡ length old
   pub before : (j : ℕ) → j < from → get_or new j 0 ≡ get_or old j 0
   pub past : (j : ℕ) → to ≤ j → get_or new j 0 ≡ get_or old j 0
+
+-- the lent lists are still the same ones
+abbrev pub SameLists : Lent → Lent → Type 0
+SameLists old new = (new.labels.ghost_name ≡ old.labels.ghost_name) × (new.low_p.ghost_name ≡ old.low_p.ghost_name) × (new.low_q.ghost_name ≡ old.low_q.ghost_name)
 
 -- what is filled where nothing lies between the level of row `at` and the coarser one: the low rate p/q of row `at`, and the row `to` after it with the coarser level
 pub record Settled (n : ℕ) (coarser : List ℕ) (at to p q : ℕ) (labels low_ps low_qs labels' low_ps' low_qs' : List ℕ) : Type 0 where

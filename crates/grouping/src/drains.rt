@@ -1,54 +1,38 @@
 // The drains of the network between two levels: of each node p for each of its devices, and q times the signals on their lines to another wall.
 ghost use Rattle.std.specs.Prelude.{◌≤◌};
-ghost use Rattle.rules.specs.Plant.{plant_of};
-ghost use Rattle.rules.specs.Accepted.{Accepted};
+ghost use Rattle.cut.specs.Stated.{stated};
 ghost use Rattle.grouping.specs.Between.{NodesBelow, Shared, Drained};
 
+use crate::nodes::Nodes;
+use cut::rate::AcceptedRate;
 use rules::DEVICES;
 
 // Each node's share: p for each of the n devices that it stands for.
-fn share_out(n: usize, p: usize, node: &[usize; DEVICES]) -> [usize; DEVICES]
+pub fn share_out(n: usize, p: usize, node: &[usize; DEVICES]) -> [usize; DEVICES]
     requires { (n ≤ 128) × NodesBelow n node.now × (p ≤ 100000000) }
     ensures { Shared n p node.now result }
 {
-    let mut drains = [0usize; DEVICES];
-    let mut v = 0;
-    while v < n {
-        let x = node[v];
-        let share = drains[x];
-        drains[x] = share + p;
-        v += 1;
+    let mut shares = [0usize; DEVICES];
+    for v in 0..n {
+        shares[node[v]] += p;
     }
-    drains
+    shares
 }
 
 // The drains of the nodes.
-pub fn drains_of(
-    n: usize,
-    firsts: &[usize],
-    seconds: &[usize],
-    signals: &[usize],
-    p: usize,
-    q: usize,
-    node: &[usize; DEVICES],
-    wall: &[usize; DEVICES],
-) -> [usize; DEVICES]
-    requires { Accepted n firsts.now seconds.now signals.now × NodesBelow n node.now × (p ≤ 100000000) × (q ≤ 1000) }
-    ensures { Drained (plant_of n firsts.now seconds.now signals.now) p q node.now wall.now result }
+pub fn drains_of(nodes: &Nodes, rate: AcceptedRate) -> [usize; DEVICES]
+    ensures { Drained (stated nodes.now.plant.now) rate.p rate.q nodes.now.node.now nodes.now.wall.now result }
 {
-    let mut drains = share_out(n, p, node);
-    let mut l = 0;
-    while l < firsts.len() {
-        let a = firsts[l];
-        let b = seconds[l];
-        let x = node[a];
-        let y = node[b];
-        if wall[x] != wall[y] {
-            let width = q * signals[l];
+    let plant = nodes.plant;
+    let mut drains = share_out(plant.devices, rate.p, nodes.node);
+    for l in 0..plant.firsts.len() {
+        let x = nodes.node[plant.firsts[l]];
+        let y = nodes.node[plant.seconds[l]];
+        if nodes.wall[x] != nodes.wall[y] {
+            let width = rate.q * plant.signals[l];
             drains[x] += width;
             drains[y] += width;
         }
-        l += 1;
     }
     drains
 }

@@ -1,21 +1,14 @@
 // The groups at a rate.
 ghost use Rattle.std.specs.Prelude.{◌≡◌};
-ghost use Rattle.grouping.specs.Calls.{grouping_answer, labels_after};
+ghost use Rattle.grouping.specs.Calls.{grouping_told, grouping_answer, labels_after};
 
 use crate::labels::fill;
 use cut::owners::owners;
 use cut::rate::Rate;
-use rules::DEVICES;
-
-// Number and place, and of an accepted call the number of groups.
-#[derive(Clone, Copy)]
-pub struct Grouping {
-    pub number: usize,
-    pub place: usize,
-    pub groups: usize,
-}
+use rules::{DEVICES, Fault};
 
 // The groups at a rate: fills for each device the lowest device of its group, and answers the number of groups.
+// The plant comes as n and three lists, wrong ones too: document 01, "A plant is n with three lists of one length".
 pub fn groups_at(
     n: usize,
     firsts: &[usize],
@@ -23,31 +16,15 @@ pub fn groups_at(
     signals: &[usize],
     rate: Rate,
     labels: &mut [usize],
-) -> Grouping
-    ensures answer { result ≡ grouping_answer n firsts.now seconds.now signals.now rate.p rate.q labels.old }
+) -> Result<usize, Fault>
+    ensures answer { grouping_told result ≡ grouping_answer n firsts.now seconds.now signals.now rate.p rate.q labels.old }
     ensures labels_filled { labels.new ≡ labels_after n firsts.now seconds.now signals.now rate.p rate.q labels.old }
 {
     let mut owner = [0usize; DEVICES];
-    let fault = owners(n, firsts, seconds, signals, rate, &mut owner);
-    let refused = fault.number != 0;
-    if refused {
-        return Grouping {
-            number: fault.number,
-            place: fault.place,
-            groups: 0,
-        };
+    owners(n, firsts, seconds, signals, rate, &mut owner)?;
+    let short = labels.len() < n;
+    if short {
+        return Err(Fault::ShortList);
     }
-    if labels.len() < n {
-        return Grouping {
-            number: 12,
-            place: 0,
-            groups: 0,
-        };
-    }
-    let groups = fill(n, &owner, labels);
-    Grouping {
-        number: 0,
-        place: 0,
-        groups,
-    }
+    Ok(fill(n, &owner, labels))
 }

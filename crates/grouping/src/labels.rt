@@ -12,17 +12,16 @@ pub fn fill(n: usize, owner: &[usize; DEVICES], labels: &mut [usize]) -> usize
     ensures count { result ≡ distinct (table n (first_with n owner.now)) }
     ensures labels_filled { labels.new ≡ over (table n (first_with n owner.now)) labels.old }
 {
+    // n stands for none yet: an array of `Option`s takes twice the fixed memory
     let mut first = [n; DEVICES];
     let mut groups = 0;
-    let mut v = 0;
-    while v < n {
+    for v in 0..n {
         let o = owner[v];
         if first[o] == n {
             first[o] = v;
             groups += 1;
         }
         labels[v] = first[o];
-        v += 1;
     }
     groups
 }

@@ -1,16 +1,15 @@
 // Levels: the grouping at a rate as a value, and at a rate between those of two known levels.
-ghost use Rattle.std.specs.Prelude.{◌≡◌, ℕ, ◌≤◌, ◌<◌, true, get_or, replicate};
-ghost use Rattle.rules.specs.Plant.{plant_of};
+ghost use Rattle.std.specs.Prelude.{◌≡◌, ℕ, ◌≤◌, ◌<◌, get_or, replicate};
 ghost use Rattle.rules.specs.Groups.{table, distinct};
-ghost use Rattle.rules.specs.Rates.{rate_ok};
-ghost use Rattle.rules.specs.Accepted.{Accepted};
 ghost use Rattle.rules.specs.Lists.{over};
+ghost use Rattle.cut.specs.Stated.{stated};
 ghost use Rattle.grouping.specs.Level.{IsLevel, first_with, Between};
 
 use crate::between::owners_between;
 use crate::labels::fill;
-use cut::owners::owners;
-use cut::rate::Rate;
+use cut::owners::owners_at;
+use cut::plant::Plant;
+use cut::rate::AcceptedRate;
 use rules::DEVICES;
 
 // A level: for each device the lowest device of its group and one whose community the group is, and the number of groups.
@@ -36,36 +35,18 @@ fn level_of(n: usize, owner: [usize; DEVICES]) -> Level
 }
 
 // The level at a rate.
-pub fn level_at(
-    n: usize,
-    firsts: &[usize],
-    seconds: &[usize],
-    signals: &[usize],
-    rate: Rate,
-) -> Level
-    requires { (rate_ok rate.p rate.q ≡ true) × Accepted n firsts.now seconds.now signals.now }
-    ensures { IsLevel (plant_of n firsts.now seconds.now signals.now) rate.p rate.q result }
+pub fn level_at(plant: &Plant, rate: AcceptedRate) -> Level
+    ensures { IsLevel (stated plant.now) rate.p rate.q result }
 {
-    let mut owner = [0usize; DEVICES];
-    owners(n, firsts, seconds, signals, rate, &mut owner);
-    level_of(n, owner)
+    level_of(plant.devices, owners_at(plant, rate))
 }
 
-// The level at a rate between those of two known levels: one search for each group of the finer, whose owners these are, inside the
-// coarser's group, whose labels are the walls.
-pub fn level_between(
-    n: usize,
-    firsts: &[usize],
-    seconds: &[usize],
-    signals: &[usize],
-    rate: Rate,
-    owner: &[usize; DEVICES],
-    wall: &[usize; DEVICES],
-) -> Level
-    requires taken { (rate_ok rate.p rate.q ≡ true) × Accepted n firsts.now seconds.now signals.now }
-    requires between { Between (plant_of n firsts.now seconds.now signals.now) rate.p rate.q owner.now wall.now }
-    ensures { IsLevel (plant_of n firsts.now seconds.now signals.now) rate.p rate.q result }
+// The level at a rate between those of two known levels: one search for each group of the finer, whose owners are the nodes, inside the
+// coarser's group, whose labels are the walls. The two levels are no struct: each function over them asks another fact of the two.
+pub fn level_between(plant: &Plant, rate: AcceptedRate, finer: &Level, coarser: &Level) -> Level
+    requires { Between (stated plant.now) rate.p rate.q finer.now.owner coarser.now.labels }
+    ensures { IsLevel (stated plant.now) rate.p rate.q result }
 {
-    let between = owners_between(n, firsts, seconds, signals, rate.p, rate.q, owner, wall);
-    level_of(n, between)
+    let between = owners_between(plant, rate, &finer.owner, &coarser.labels);
+    level_of(plant.devices, between)
 }

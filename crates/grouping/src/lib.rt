@@ -11,4 +11,5 @@ mod join;
 pub mod joining;
 mod labels;
 mod level;
+mod nodes;
 pub mod row;

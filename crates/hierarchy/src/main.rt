@@ -10,6 +10,7 @@ fn main(rt: HostRuntime) -> io::Result<()> {
     let mut text = Vec::new(rt.alloc());
     rt.stdin().take(32769).read_to_end(&mut text)?;
     let mut bytes = [0u8; 262144];
-    let w = list_text(&text, &mut bytes);
-    io::writer(&rt).write_all(&bytes[..w.count])
+    // no listing is longer than the list, so that it is not refused
+    let count = list_text(&text, &mut bytes).unwrap_or(0);
+    io::writer(&rt).write_all(&bytes[..count])
 }

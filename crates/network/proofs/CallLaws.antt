@@ -1,17 +1,19 @@
--- The public call: the loop over the nodes, and what the call answers and leaves in the lent owners, refused and taken.
---     Owning, owning-..   the owners so far are those of the sweep over the nodes below x
---     owners-..           what the call answers
+-- The loop over the nodes, and the owners that it leaves.
+--     Owning, owning-..        the owners so far are those of the sweep over the nodes below x
+--     wanted-..                the flag of a wanted node
+--     cleared, cleared-again   the owners before the loop
 -- Assumes nothing.
-use Prim.Native.Nat.{ℕ, suc, ◌+◌, ◌≤◌, ◌<◌, zero-le}
+use Prim.Native.Nat.{ℕ, zero, suc, ◌+◌, ◌≤◌, ◌<◌, zero-le}
 use mathlib.Core.Path.{◌≡◌, refl, sym, ap, subst, fun_ext, ◌∙◌}
-use mathlib.Core.Bool.{Bool, true, false, cond, true≢false, false≢true}
-use mathlib.Core.List.{List}
+use mathlib.Core.Bool.{Bool, true, false, cond, true≢false}
+use mathlib.Core.List.{List, ◌∷◌, ◌++◌}
 use mathlib.Core.Logic.{◌⊎◌, ⊎_elim}
 use native.Mathlib.Nat.{le_antisymm, eq-or-lt_of_le}
 use native.Mathlib.Numerals.{add-one}
 use native.Mathlib.Omega.{arith}
 use lib.Dec.{eqb}
-use lib.ListN.{length, get_or}
+use lib.ListN.{length, get_or, take, drop, replicate}
+use Rattle.std.proofs.lemmas.List.{length-take-le}
 use borrow.Author.Tests.{eq-eqb, ne_eqb}
 use Rattle.rules.specs.Plant.{lines_of}
 use Rattle.rules.specs.Cut.{Devices}
@@ -19,10 +21,11 @@ use Rattle.rules.specs.Groups.{table}
 use Rattle.rules.specs.Lists.{over}
 use Rattle.rules.specs.Sweep.{sweep, Sought, wanted_in}
 use Rattle.rules.specs.Network.{IsLeast}
-use Rattle.rules.proofs.FillLaws.{over_agree, over-front, over-size, over-over}
+use Rattle.rules.proofs.LabelLaws.{length-table}
+use Rattle.rules.proofs.FillLaws.{over_agree, over-front, over-over}
 use Rattle.rules.proofs.Sweep.{sweep-takes, sweep-passes, sweep-keeps}
 use Rattle.rules.proofs.SweepLaws.{sweep-first}
-use Rattle.network.specs.Calls.{Taken, OwnersOf, OwnersAre}
+use Rattle.network.specs.Calls.{OwnersOf}
 
 -- the loop over the nodes, L x S saying that S is the least set that holds x
 pub record Owning (k : ℕ) (L : ℕ → Devices → Type 0) (wanted : ℕ → Bool) (old new : List ℕ) (x : ℕ) : Type 0 where
@@ -39,9 +42,6 @@ module _ (k : ℕ) (L : ℕ → Devices → Type 0) (wanted : ℕ → Bool) (old
       record { within = zero-le; room = h; sets = λ i v. false; least = λ i b. absurd (omega arith); so_far = e }
 
   module _ {new : List ℕ} {x : ℕ} (w : Owning k L wanted old new x) (l : x < k) where
-    pub owning-size : length new ≡ length old
-    owning-size = ap length w.so_far ∙ over-size k (sweep w.sets wanted k x) old w.room
-
     own : (v : ℕ) → v < k → get_or new v 0 ≡ sweep w.sets wanted k x v
     own v h = ap (λ (t : List ℕ). get_or t v 0) w.so_far ∙ over-front k (sweep w.sets wanted k x) old v h
 
@@ -104,6 +104,16 @@ pub wanted-is : (wanted : List ℕ) (x : ℕ) → (get_or wanted x 0 ≡ 0 → �
 unfolding wanted_in
 wanted-is wanted x h = rw (ne_eqb _ _ h)
 
+-- the owners once the first k entries are filled with k
+one-value : (n x : ℕ) → table n (λ v. x) ≡ replicate n x
+unfolding table
+one-value zero x = refl
+one-value (suc n) x = ap (λ (t : List ℕ). x ∷ t) (one-value n x)
+
+pub cleared : (k : ℕ) {front : List ℕ} (old : List ℕ) → k ≤ length old → front ≡ replicate (length (take k old)) k → front ++ drop k old ≡ over (table k (λ v. k)) old
+unfolding over
+cleared k old room e = rw (e, length-take-le k old room, length-table k (λ v. k), one-value k k)
+
 pub cleared-again : (k : ℕ) (f : ℕ → ℕ) (old new : List ℕ) → k ≤ length old → new ≡ over (table k f) old → new ≡ over (table k f) new
 cleared-again k f old new h e = e ∙ sym (over-over k f f old h) ∙ ap (over (table k f)) (sym e)
 
@@ -119,11 +129,3 @@ module _ {k : ℕ} {xs ys zs ds wanted : List ℕ} where
         ∙ ap (over (table k (sweep w.sets (wanted_in wanted) k k))) clear
         ∙ over-over k (λ v. k) (sweep w.sets (wanted_in wanted) k k) owner room;
   }
-
-  module _ {owner : List ℕ} where
-    pub owners-refused : (Taken k xs ys zs ds (length wanted) (length owner) → ⊥) → OwnersAre k xs ys zs ds wanted owner false owner
-    owners-refused never = record { taken = λ e. absurd (false≢true e); refused = λ e. (never, refl); found = λ e. absurd (false≢true e) }
-
-    pub owners-taken : {owner' : List ℕ} → Taken k xs ys zs ds (length wanted) (length owner) → OwnersOf k xs ys zs ds wanted owner owner'
-        → OwnersAre k xs ys zs ds wanted owner true owner'
-    owners-taken taken found = record { taken = λ e. taken; refused = λ e. absurd (true≢false e); found = λ e. found }

@@ -1,13 +1,16 @@
 -- The index of each node's lines, with one line more.
+--     behind-none                             no line
 --     before-none, before-kept, before-new    the last line of a node among none, with a line that does not touch it, with one that does
 --     lasts-none, lasts-step                  the last line of each node
 --     priors-none, priors-step                of each line the one before it, of its first and of its second end
---     before-first, before-second             the line before line l of one of its ends
---     touches-..                              whether a node is an end of a line
+--     before-second                           the line before line l of its second end
+--     laid-network                            the lists of a network are laid as the search needs them
 -- Assumes nothing.
 use Prim.Native.Nat.{ℕ, ◌+◌, ◌≤◌, ◌<◌}
-use mathlib.Core.Path.{◌≡◌, sym}
-use mathlib.Core.Bool.{true, false}
+use Rattle.std.proofs.Common.{Option, None, Some}
+use Rattle.std.specs.Option.{is_some}
+use mathlib.Core.Path.{◌≡◌, refl, sym}
+use mathlib.Core.Bool.{true, false, true≢false}
 use mathlib.Core.List.{List}
 use native.Mathlib.Decide.{ℕ_discrete}
 use native.Mathlib.Omega.{arith}
@@ -15,7 +18,13 @@ use borrow.Author.Count.{below_more}
 use lib.ListN.{length, get_or, set, length-set}
 use lib.Seq.{get_or-set_same, get_or-set_other}
 use Rattle.network.proofs.EndLaws.{touches-first, touches-second, touches-neither, touches-other}
-use Rattle.network.specs.Search.{touches, Laid, Before, Lasts, Priors}
+use Rattle.network.specs.Calls.{Network}
+use Rattle.network.specs.Search.{behind, touches, Laid, Before, Lasts, Priors}
+
+-- no line
+pub behind-none : (o : Option ℕ) → is_some o ≡ false → behind o ≡ 0
+behind-none None e = refl
+behind-none (Some l) e = absurd (true≢false e)
 
 module _ (xs ys : List ℕ) (v : ℕ) where
   pub before-none : Before xs ys v 0 0
@@ -71,10 +80,17 @@ module _ (xs ys : List ℕ) (k : ℕ) {lasts : List ℕ} (w : Lasts xs ys k last
     by_second = prior ys seconds (omega (arith, laid.few)) (laid.second k b) p.by_second;
   }
 
--- line l touches v: the line before it of v is in the list of its first ends where v is that end, else in the list of its second ends
+-- line l touches v: where v is not its first end, the line before it of v is in the list of its second ends
 module _ (xs ys : List ℕ) {k : ℕ} {firsts seconds : List ℕ} (p : Priors xs ys k firsts seconds) (l v : ℕ) (b : l < k) where
-  pub before-first : get_or xs l 0 ≡ v → Before xs ys v l (get_or firsts l 0)
-  before-first e = rw e at (p.by_first l b)
-
   pub before-second : touches xs ys l v ≡ true → (get_or xs l 0 ≡ v → ⊥) → Before xs ys v l (get_or seconds l 0)
   before-second t h = rw (touches-other xs ys l v t h) at (p.by_second l b)
+
+-- the lists of a network are laid as the search needs them
+pub laid-network : {k : ℕ} {xs ys zs ds : List ℕ} → Network k xs ys zs ds → Laid xs ys
+laid-network a = record {
+  few = a.lines;
+  even = a.even;
+  first = λ l b. omega (arith, (a.line l b).rising, (a.line l b).ends, a.few);
+  second = λ l b. omega (arith, (a.line l b).ends, a.few);
+  differ = λ l b. (a.line l b).rising;
+}

@@ -4,11 +4,12 @@
 --     sent-none, sent-on                nothing has gone from a node to itself; what went on to a place went on from the place before
 --     clear-spare, clear-rest            the last line of a way with something to spare, and the way before it
 --     clear_kept                        what goes over the last line of a way leaves the way before it as clear as it was
---     Narrow, narrow_start, narrow_step, narrow-end    the least spare on the way, found from its end back to place 0
---     Used, used_start, used-spare, used-none, used-end   the least place of the way whose line has nothing to spare, found from its end back to place 0
---     Going, going_start, going_step, going_end      what has gone over the lines of the way, from its end back to place 0
+--     Narrow, narrow_step, narrow-end    the least spare on the way, found from its end back to place 0
+--     Used, used-spare, used-none, used-end   the least place of the way whose line has nothing to spare, found from its end back to place 0
+--     Going, going_step      what has gone over the lines of the way, from its end back to place 0
 --     going-kept, kept_full                and what that left of the spares
 -- Assumes nothing.
+use Rattle.std.specs.Prelude.{Option, None, Some, IfSome, IfNone}
 use Prim.Native.Nat.{ℕ, ◌+◌, ◌-◌, ◌≤◌, ◌<◌}
 use mathlib.Core.Path.{◌≡◌, refl, sym, ap, ◌∙◌}
 use mathlib.Core.Logic.{◌⊎◌, inl, inr, ⊎_elim}
@@ -180,9 +181,6 @@ pub record Narrow (xs fs rs nodes vias froms : List ℕ) (last limit most j : �
   pub clear : (δ : ℕ) → δ ≤ most → Clear xs fs rs nodes vias froms δ j → Clear xs fs rs nodes vias froms δ last
 
 module _ (xs fs rs nodes vias froms : List ℕ) (last limit : ℕ) where
-  pub narrow_start : 1 ≤ limit → Narrow xs fs rs nodes vias froms last limit limit last
-  narrow_start h = record { some = h; capped = omega arith; within = omega arith; on = λ i o. o; full = inl refl; clear = λ δ b c. c }
-
   pub narrow_step : {most j : ℕ} (least : ℕ) → Narrow xs fs rs nodes vias froms last limit most j → 1 ≤ j → get_or froms j 0 < j
       → 1 ≤ least → least ≤ most → least ≤ spare_to xs fs rs nodes vias froms j
       → (least ≡ most) ⊎ (least ≡ spare_to xs fs rs nodes vias froms j)
@@ -227,9 +225,6 @@ on_none here z = z
 on_none (back o r) z = absurd (omega arith)
 
 module _ (xs fs rs nodes vias froms : List ℕ) (last : ℕ) where
-  pub used_start : Used xs fs rs nodes vias froms last (last + 1) last
-  used_start = record { some = omega arith; most = omega arith; none = λ b. absurd (omega arith); within = omega arith; each = λ i m o. inl o }
-
   module _ {used j : ℕ} (u : Used xs fs rs nodes vias froms last used j) where
     module _ (o : 1 ≤ j) (p : get_or froms j 0 < j) where
       pub used-spare : 1 ≤ spare_to xs fs rs nodes vias froms j → Used xs fs rs nodes vias froms last used (get_or froms j 0)
@@ -265,22 +260,6 @@ pub record Going (xs ys fs₀ rs₀ nodes vias froms : List ℕ) (last δ : ℕ)
   pub lost : (i : ℕ) → 1 ≤ i → i < last + 1 → (spare_to xs fs rs nodes vias froms i ≡ spare_to xs fs₀ rs₀ nodes vias froms i) ⊎ On froms last i
 
 module _ (xs ys fs₀ rs₀ nodes vias froms : List ℕ) (last δ : ℕ) where
-  pub going_start : Clear xs fs₀ rs₀ nodes vias froms δ last → Going xs ys fs₀ rs₀ nodes vias froms last δ fs₀ rs₀ last
-  going_start c = record {
-    within = omega arith;
-    clear = c;
-    sent = sent-none xs ys (get_or nodes last 0) δ fs₀ rs₀;
-    on = λ i o. o;
-    ahead = λ i m b. refl;
-    gone = λ i m o. inl o;
-    grown = λ l u. inl (omega arith);
-    lost = λ i m b. inl refl;
-  }
-
-  pub going_end : {fs rs : List ℕ} {j : ℕ} → Going xs ys fs₀ rs₀ nodes vias froms last δ fs rs j → j ≤ 0
-      → Sent xs ys (get_or nodes 0 0) (get_or nodes last 0) δ fs₀ rs₀ fs rs
-  going_end {fs} {rs} {j} g h = let e : j ≡ 0 = omega arith in rw e at g.sent
-
   pub going-kept : {fs rs : List ℕ} {j : ℕ} → Going xs ys fs₀ rs₀ nodes vias froms last δ fs rs j → j ≤ 0 → Kept xs nodes vias froms last δ fs₀ rs₀ fs rs
   going-kept g h = record {
     grown = g.grown;
@@ -369,3 +348,12 @@ pub kept_full : {xs nodes vias froms : List ℕ} {last δ : ℕ} {fs rs fs' rs' 
     → (δ ≡ limit) ⊎ ((i : ℕ) × (1 ≤ i) × (i < last + 1) × On froms last i × (spare_to xs fs rs nodes vias froms i ≡ δ))
     → ((i : ℕ) → 1 ≤ i → On froms last i → i < last + 1 → 1 ≤ spare_to xs fs' rs' nodes vias froms i) → δ ≡ limit
 kept_full kept limit full some = ⊎_elim (λ e. e) (λ w. absurd (omega (arith, some w.0 w.1 w.3 w.2, kept.took w.0 w.1 w.3, w.4))) full
+
+-- what holds of an answer that may be none, by what it is
+pub on-none : {P : Type 0} (o : Option ℕ) → (o ≡ None → P) → IfNone o P
+on-none None f = f refl
+on-none (Some x) f = tt
+
+pub on-some : {P : ℕ → Type 0} (o : Option ℕ) → ((x : ℕ) → o ≡ Some x → P x) → IfSome o P
+on-some None f = tt
+on-some (Some x) f = f x refl

@@ -1,6 +1,6 @@
--- A search on plain lists: how its tree begins and grows by a node, and how it goes on by a line, by a node, and over the lines that are not the node's.
+-- A search on plain lists: how its tree begins and grows by a node, and how it goes on by a line and over the lines that are not the node's.
 -- Assumes nothing.
-use Prim.Native.Nat.{ℕ, ◌+◌, ◌-◌, ◌≤◌, ◌<◌}
+use Prim.Native.Nat.{ℕ, ◌+◌, ◌≤◌, ◌<◌}
 use mathlib.Core.Path.{◌≡◌, refl, sym, ◌∙◌}
 use mathlib.Core.Logic.{◌⊎◌, inl, inr, ⊎_elim}
 use mathlib.Core.Bool.{Bool, true, false, cond, false≢true}
@@ -46,9 +46,6 @@ module _ {xs ys fs rs : List ℕ} {d : ℕ} {nodes vias froms marks : List ℕ} 
   mark-small : (v : ℕ) → v < 128 → get_or marks v 0 ≤ 1
   mark-small v m = ⊎_elim (λ e. omega arith) (λ e. omega arith) (mark-or-none v m)
 
-  pub count_most : count ≤ 128
-  count_most = omega (arith, tree.counted, sum-most 128 (λ v. get_or marks v 0) 1 mark-small)
-
   pub mark-one : (v : ℕ) → v < 128 → (get_or marks v 0 ≡ 0 → ⊥) → get_or marks v 0 ≡ 1
   mark-one v m h = ⊎_elim (λ e. absurd (h e)) (λ e. e) (mark-or-none v m)
 
@@ -82,16 +79,6 @@ module _ {nodes marks : List ℕ} (j : ℕ) (all : Marks nodes marks (j + 1)) (s
     where
       before : (v : ℕ) → (v ≡ get_or nodes j 0 → ⊥) → ((i : ℕ) × (i < j + 1) × (get_or nodes i 0 ≡ v)) → (i : ℕ) × (i < j) × (get_or nodes i 0 ≡ v)
       before v n w = ⊎_elim (λ b. (w.0, b, w.2)) (λ e. absurd (n (sym w.2 ∙ rw e))) (last-or-before w.0 j w.1)
-
--- ---- a search that has found a node with drain left, or can go on
-pub record Ready (xs ys fs rs ws : List ℕ) (d : ℕ) (nodes vias froms marks : List ℕ) (found : Bool) (count h rest : ℕ) : Type 0 where
-  pub none : found ≡ false → Standing xs ys fs rs ws d nodes vias froms marks count h rest
-  pub some : found ≡ true → Found xs ys fs rs ws d nodes vias froms marks count h rest
-  pub ahead : found ≡ true → Rest xs ys (get_or nodes h 0) rest
-
-pub ready-standing : {xs ys fs rs ws : List ℕ} {d : ℕ} {nodes vias froms marks : List ℕ} {count h rest : ℕ} → Standing xs ys fs rs ws d nodes vias froms marks count h rest
-    → Ready xs ys fs rs ws d nodes vias froms marks false count h rest
-ready-standing standing = record { none = λ e. standing; some = λ e. absurd (false≢true e); ahead = λ e. absurd (false≢true e) }
 
 -- ---- a tree of one node
 -- the marks that begin it
@@ -130,24 +117,11 @@ module _ (xs ys fs rs : List ℕ) (d : ℕ) (nodes vias froms marks : List ℕ) 
   }
 
   module _ (ws : List ℕ) {rest : ℕ} (before : Before xs ys d (length xs) rest) where
-    begin-rest : Rest xs ys (get_or nodes 0 0) rest
-    begin-rest = rw root (rest-before before (omega arith))
-
-    begin-standing : get_or ws d 0 ≡ 0 → Standing xs ys fs rs ws d nodes vias froms marks 1 0 rest
+    pub begin-standing : get_or ws d 0 ≡ 0 → Standing xs ys fs rs ws d nodes vias froms marks 1 0 rest
     begin-standing e = record {
       scan = record { covered = covered-begin rest before.gap; dry = λ j l. rw (first-only j l) e };
-      ahead = begin-rest;
+      ahead = rw root (rest-before before (omega arith));
     }
-
-    begin-found : 1 ≤ get_or ws d 0 → Found xs ys fs rs ws d nodes vias froms marks 1 0 rest
-    begin-found h = record {
-      covered = covered-begin rest before.gap;
-      dry = λ j l. absurd (omega arith);
-      wet = λ j e. rw (first-only j (omega arith)) h;
-    }
-
-    pub ready-begin : {found : Bool} → (found ≡ false → get_or ws d 0 ≡ 0) → (found ≡ true → 1 ≤ get_or ws d 0) → Ready xs ys fs rs ws d nodes vias froms marks found 1 0 rest
-    ready-begin dry wet = record { none = λ e. begin-standing (dry e); some = λ e. begin-found (wet e); ahead = λ e. begin-rest }
 
 -- ---- a tree grows by a node
 -- line l, which has something to spare, leads from the node at place h to node w, which is not marked
@@ -336,37 +310,10 @@ module _ {xs ys fs rs : List ℕ} {d : ℕ} {nodes vias froms marks : List ℕ} 
     here = λ o l m n e r. ⊎_elim (λ b. absurd (false≢true (sym ((gap o).gap l m b) ∙ e))) (λ b. before.here o l b n e r) (below_or_not l k);
   }
 
-  -- to the next node
-  covered_next : Covered xs ys fs rs d nodes vias froms marks count h 0 → h < count → Covered xs ys fs rs d nodes vias froms marks count (h + 1) (length xs)
-  covered_next before m = record {
-    tree = before.tree;
-    place = omega arith;
-    shut = λ j b. ⊎_elim (λ c. before.shut j c) (λ e. rw e (λ l n. before.here m l (omega arith) n)) (last-or-before j h b);
-    here = λ o l a b. absurd (omega arith);
-  }
-
   module _ {ws : List ℕ} where
     pub scan-same : (l : ℕ) → Scan xs ys fs rs ws d nodes vias froms marks count h (l + 1) → (1 ≤ spare_from_of xs fs rs l (get_or nodes h 0) → get_or marks (far_end_of xs ys l (get_or nodes h 0)) 0 ≡ 1)
         → Scan xs ys fs rs ws d nodes vias froms marks count h l
     scan-same l scan old = record { covered = covered_same l scan.covered old; dry = scan.dry }
-
-    pub scan-next : Scan xs ys fs rs ws d nodes vias froms marks count h 0 → h < count → Scan xs ys fs rs ws d nodes vias froms marks count (h + 1) (length xs)
-    scan-next scan m = record { covered = covered_next scan.covered m; dry = scan.dry }
-
-    -- behind the last node
-    pub scan-done : {k : ℕ} → Scan xs ys fs rs ws d nodes vias froms marks count h k → count ≤ h → Scan xs ys fs rs ws d nodes vias froms marks count count (length xs)
-    scan-done scan b = record {
-      covered = record {
-        tree = scan.covered.tree;
-        place = omega arith;
-        shut = λ j m. scan.covered.shut j (omega arith);
-        here = λ o. absurd (omega arith);
-      };
-      dry = scan.dry;
-    }
-
-    pub found-gap : {k t : ℕ} → Found xs ys fs rs ws d nodes vias froms marks count h k → Before xs ys (get_or nodes h 0) k t → Found xs ys fs rs ws d nodes vias froms marks count h t
-    found-gap found gap = record { covered = covered-gap found.covered (λ o. gap); dry = found.dry; wet = found.wet }
 
     -- to the line before, or to a place behind the queue
     pub standing-line : {k t : ℕ} → Scan xs ys fs rs ws d nodes vias froms marks count h k → k ≤ length xs → Before xs ys (get_or nodes h 0) k t → Standing xs ys fs rs ws d nodes vias froms marks count h t
@@ -381,14 +328,3 @@ module _ {xs ys fs rs : List ℕ} {d : ℕ} {nodes vias froms marks : List ℕ} 
       scan = record { covered = covered-gap scan.covered gap; dry = scan.dry };
       ahead = ⊎_elim (λ o. rest-before (gap o) (omega arith)) (λ o. rw (none o) (record { within = omega arith; own = λ l e. absurd (omega arith) })) (below_or_not h count);
     }
-
-    -- the next line
-    module _ {rest : ℕ} (now : Standing xs ys fs rs ws d nodes vias froms marks count h rest) (some : 0 < rest) where
-      pub standing-below : rest - 1 < length xs
-      standing-below = omega (arith, now.ahead.within)
-
-      pub standing-own : touches xs ys (rest - 1) (get_or nodes h 0) ≡ true
-      standing-own = now.ahead.own (rest - 1) (omega arith)
-
-      pub standing-scan : Scan xs ys fs rs ws (get_or nodes 0 0) nodes vias froms marks count h (rest - 1 + 1)
-      standing-scan = let e : rest - 1 + 1 ≡ rest = omega arith in rw (now.scan.covered.tree.root, e) now.scan

@@ -2,7 +2,7 @@
 --     spares-start, spares-sent      so it is at the start, and so it stays when some is sent
 --     drains-less                    what is sent leaves the drains with less
 --     way-all, nodes-below           what holds of every node in the queue
---     spares-done, spares-marks      where nothing more can be sent, the marked nodes are the least set
+--     spares-done                    where nothing more can be sent, the marked nodes are the least set
 -- Assumes nothing.
 use Prim.Native.Nat.{ℕ, zero, suc, ◌+◌, ◌-◌, ◌≤◌, ◌<◌, zero-le, suc-le-suc}
 use mathlib.Core.Path.{◌≡◌, refl, sym, ap, ◌∙◌}
@@ -13,7 +13,7 @@ use native.Mathlib.Nat.{le_trans, lt-suc_self}
 use native.Mathlib.Omega.{arith}
 use borrow.Author.Tests.{eqb-true, eq-eqb}
 use lib.Dec.{eqb}
-use lib.ListN.{length, get_or, set}
+use lib.ListN.{length, get_or, set, replicate}
 use lib.Seq.{get_or-set_same, get_or-set_other}
 use Rattle.rules.specs.Plant.{lines_of}
 use Rattle.rules.specs.Cut.{Devices, crossing, out}
@@ -29,6 +29,12 @@ drained-sum : (f : ℕ → ℕ) (k : ℕ) (S : Devices) → drained f k S ≡ su
 unfolding drained sum
 drained-sum f zero S = refl
 drained-sum f (suc k) S = rw (drained-sum f k S)
+
+-- nothing but 0
+pub zeros : (n l : ℕ) → get_or {A = ℕ} (replicate n 0) l 0 ≡ 0
+zeros zero l = refl
+zeros (suc n) zero = refl
+zeros (suc n) (suc l) = zeros n l
 
 -- before anything is sent each way of a line has its width
 start-line : (z : ℕ) (a b : Bool) → passing a b z z ≡ crossing z a b
@@ -226,10 +232,3 @@ module _ {n : ℕ} {xs ys zs ds : List ℕ} {d : ℕ} {fs rs ws : List ℕ} {nod
     least = λ T t. omega (arith, marked-cost, spares.share T t);
     inside = λ T t l. marked-least T t (omega (arith, marked-cost, spares.share T t));
   }
-
-  pub spares-marks : (v : ℕ) → v < n → get_or marks v 0 ≡ cond (eqb (get_or marks v 0) 1) 1 0
-  spares-marks v b = go (scan.covered.tree.listed v (le_trans b few))
-    where
-      go : (get_or marks v 0 ≡ 0) ⊎ ((j : ℕ) × (j < count) × (get_or nodes j 0 ≡ v)) → get_or marks v 0 ≡ cond (eqb (get_or marks v 0) 1) 1 0
-      go (inl z) = rw z
-      go (inr r) = rw (rw r.2 at (scan.covered.tree.marked r.0 r.1))

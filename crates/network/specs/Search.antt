@@ -1,17 +1,11 @@
 -- What the functions of the search say to each other. No public contract cites this file.
 -- A line l joins the nodes `get_or xs l 0` and `get_or ys l 0`. `get_or fs l 0` is what can still go from its first end to its second (forth), `get_or rs l 0` the other way (back), and `get_or ws v 0` what can still go from node v to the added vertex (its drain).
 -- Assumes nothing.
-use Rattle.std.specs.Prelude.{ℕ, ◌+◌, ◌-◌, ◌*◌, ◌≤◌, ◌<◌, ◌≡◌, ◌⊎◌, Bool, true, false, ◌||◌, cond, List, eqb, length, get_or, set}
+use Rattle.std.specs.Prelude.{ℕ, ◌+◌, ◌-◌, ◌*◌, ◌≤◌, ◌<◌, ◌≡◌, ◌⊎◌, Bool, true, false, ◌||◌, cond, List, Option, None, Some, eqb, length, get_or, set}
 use Rattle.rules.specs.Plant.{lines_of}
 use Rattle.rules.specs.Cut.{Devices}
 use Rattle.rules.specs.Numbers.{sum}
 use Rattle.rules.specs.Network.{net_cost}
-use Rattle.network.specs.Calls.{Network}
-
--- a network with a start
-pub record Started (k : ℕ) (xs ys zs ds : List ℕ) (start : ℕ) : Type 0 where
-  pub network : Network k xs ys zs ds
-  pub node : start < k
 
 -- what can leave a set over one line: its forth where only the first end is in the set, its back where only the second is
 unfoldable pub passing : Bool → Bool → ℕ → ℕ → ℕ
@@ -52,6 +46,11 @@ pub record Before (xs ys : List ℕ) (v k t : ℕ) : Type 0 where
   pub at_most : t ≤ k
   pub real : (l : ℕ) → t ≡ l + 1 → touches xs ys l v ≡ true
   pub gap : (l : ℕ) → t ≤ l → l < k → touches xs ys l v ≡ false
+
+-- one more than a line, and 0 for none
+abbrev pub behind : Option ℕ → ℕ
+behind None = 0
+behind (Some l) = l + 1
 
 -- the index of each node's lines, of those among the first k lines: each node's last, and of each line the one before it of its first and of its second end
 pub record Lasts (xs ys : List ℕ) (k : ℕ) (lasts : List ℕ) : Type 0 where
@@ -139,16 +138,6 @@ pub record Rest (xs ys : List ℕ) (u rest : ℕ) : Type 0 where
 pub record Standing (xs ys fs rs ws : List ℕ) (d : ℕ) (nodes vias froms marks : List ℕ) (count h rest : ℕ) : Type 0 where
   pub scan : Scan xs ys fs rs ws d nodes vias froms marks count h rest
   pub ahead : Rest xs ys (get_or nodes h 0) rest
-
--- what a found node leaves to do: the way to it, the last in the queue, has something to spare on every line, and it has drain left
-pub record Led (xs ys fs rs ws : List ℕ) (d : ℕ) (nodes vias froms : List ℕ) (count : ℕ) : Type 0 where
-  pub way : Way xs ys nodes vias froms count
-  pub passable : Passable xs fs rs nodes vias froms count
-  pub some : 1 ≤ count
-  pub most : count ≤ 128
-  pub root : get_or nodes 0 0 ≡ d
-  pub device : (j : ℕ) → j < count → get_or nodes j 0 < 128
-  pub wet : (j : ℕ) → count ≡ j + 1 → 1 ≤ get_or ws (get_or nodes j 0) 0
 
 -- on the way back from place j to place 0 at least δ can go over each line
 pub data Clear (xs fs rs nodes vias froms : List ℕ) (δ : ℕ) : ℕ → Type 0 where

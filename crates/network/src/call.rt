@@ -2,11 +2,12 @@
 ghost use Rattle.std.specs.Prelude.{length};
 ghost use Rattle.network.specs.Calls.{OwnersAre};
 
-use crate::judge::fits;
+use crate::judge::Network;
 use crate::owners::fill_owners;
 
 // Whether it is a network that is taken; and then fills the owner of each node: node by node from the lowest, a wanted one that nobody
-// owns yet becomes the owner of its least set, contained in every other such set; k stands for nobody.
+// owns yet becomes the owner of its least set, contained in every other such set; k stands for nobody, since the lent list holds numbers. The
+// lists come as they are lent, wrong ones too; the answer is no `Result`, for there is one reason to refuse. Marks are bytes.
 pub fn least_sets(
     k: usize,
     firsts: &[usize],
@@ -18,17 +19,12 @@ pub fn least_sets(
 ) -> bool
     ensures { OwnersAre k firsts.now seconds.now widths.now drains.now wanted.now owner.old result owner.new }
 {
-    if !fits(
-        k,
-        firsts,
-        seconds,
-        widths,
-        drains,
-        wanted.len(),
-        owner.len(),
-    ) {
+    let Some(network) = Network::new(k, firsts, seconds, widths, drains) else {
+        return false;
+    };
+    if wanted.len() < k || owner.len() < k {
         return false;
     }
-    fill_owners(k, firsts, seconds, widths, drains, wanted, owner);
+    fill_owners(&network, wanted, owner);
     true
 }

@@ -1,71 +1,87 @@
-// An index of each node's lines. `last[v]` is one more than the last line of node v, and 0 where it has none;
-// `before_first[l]` and `before_second[l]` say the same of the lines below l, for the first and for the second end of line l.
-ghost use Rattle.std.specs.Prelude.{length, ◌≡◌, true, ◌+◌, ◌≤◌, ◌<◌};
-ghost use Rattle.network.specs.Search.{Laid, Before, Lasts, Priors, touches};
+// A network with an index of each node's lines.
+ghost use Rattle.std.specs.Prelude.{length, ◌≡◌, true, ◌≤◌, ◌<◌};
+ghost use Rattle.network.specs.Search.{behind, Laid, Before, Lasts, Priors, touches, far_end_of};
 
+use crate::judge::Network;
 use rules::{DEVICES, LINES};
 
-// One more line.
-fn index_line(
-    firsts: &[usize],
-    seconds: &[usize],
-    k: usize,
-    last: &mut [usize],
-    before_first: &mut [usize],
-    before_second: &mut [usize],
-)
-    requires laid { Laid firsts.now seconds.now }
-    requires k_in_bounds { k < length firsts.now }
-    requires last_len { (length last.old ≡ 128) × (length before_first.old ≡ 1024) × (length before_second.old ≡ 1024) }
-    requires lasts { Lasts firsts.now seconds.now k last.old }
-    requires priors { Priors firsts.now seconds.now k before_first.old before_second.old }
-    ensures lasts_after { Lasts firsts.now seconds.now (k + 1) last.new }
-    ensures priors_after { Priors firsts.now seconds.now (k + 1) before_first.new before_second.new }
-{
-    let a = firsts[k];
-    let b = seconds[k];
-    before_first[k] = last[a];
-    before_second[k] = last[b];
-    last[a] = k + 1;
-    last[b] = k + 1;
+// `last[v]` is one more than the last line of node v, and 0 where it has none; `before_first[l]` and `before_second[l]` say the same of
+// the lines below l, for the first and for the second end of line l. They are no `Option`s: only `line_of`
+// reads such a number, and an array of `Option`s takes twice the fixed memory that stands in for a heap.
+#[derive(Drop)]
+pub struct Lines<'a> {
+    pub network: Network<'a>,
+    last: [usize; DEVICES],
+    before_first: [usize; LINES],
+    before_second: [usize; LINES],
+    pub ghost laid: { Laid network.firsts.now network.seconds.now },
+    pub ghost lasts: { Lasts network.firsts.now network.seconds.now (length network.firsts.now) last },
+    pub ghost priors: { Priors network.firsts.now network.seconds.now (length network.firsts.now) before_first before_second },
 }
 
-// The index of all lines, over a `last` that holds 0.
-pub fn index_lines(
-    firsts: &[usize],
-    seconds: &[usize],
-    last: &mut [usize; DEVICES],
-    before_first: &mut [usize; LINES],
-    before_second: &mut [usize; LINES],
-)
-    requires laid { Laid firsts.now seconds.now }
-    requires lasts { Lasts firsts.now seconds.now 0 last.old }
-    ensures lasts_after { Lasts firsts.now seconds.now (length firsts.now) last.new }
-    ensures priors_after { Priors firsts.now seconds.now (length firsts.now) before_first.new before_second.new }
+// The line that such a number says.
+fn line_of(number: usize) -> Option<usize>
+    ensures { behind result ≡ number }
 {
-    let mut k = 0;
-    while k < firsts.len() {
-        index_line(firsts, seconds, k, last, before_first, before_second);
-        k += 1;
-    }
+    number.checked_sub(1)
 }
 
-// One more than the line of node v before line l, which is one of its own, and 0 where there is none.
-pub fn line_before(
-    firsts: &[usize],
-    seconds: &[usize],
-    before_first: &[usize; LINES],
-    before_second: &[usize; LINES],
-    v: usize,
-    l: usize,
-) -> usize
-    requires line { (l < length firsts.now) × (length firsts.now ≤ 1024) }
-    requires own { touches firsts.now seconds.now l v ≡ true }
-    requires priors { Priors firsts.now seconds.now (length firsts.now) before_first.now before_second.now }
-    ensures { Before firsts.now seconds.now v l result }
-{
-    if firsts[l] == v {
-        return before_first[l];
+impl<'a> Lines<'a> {
+    // The index of all lines of a network.
+    pub fn new(network: &Network<'a>) -> Lines<'a>
+        ensures { result.network ≡ network.now }
+    {
+        let firsts = network.firsts;
+        let seconds = network.seconds;
+        let mut last = [0; DEVICES];
+        let mut before_first = [0; LINES];
+        let mut before_second = [0; LINES];
+        for l in 0..firsts.len() {
+            let a = firsts[l];
+            let b = seconds[l];
+            before_first[l] = last[a];
+            before_second[l] = last[b];
+            last[a] = l + 1;
+            last[b] = l + 1;
+        }
+        Lines {
+            network: *network,
+            last,
+            before_first,
+            before_second,
+        }
     }
-    before_second[l]
+
+    // The last line of node v.
+    pub fn last_of(&self, v: usize) -> Option<usize>
+        requires { v < 128 }
+        ensures { Before self.now.network.firsts.now self.now.network.seconds.now v (length self.now.network.firsts.now) (behind result) }
+    {
+        line_of(self.last[v])
+    }
+
+    // The line of node v before line l, which is one of its own.
+    pub fn before(&self, v: usize, l: usize) -> Option<usize>
+        requires line { l < length self.now.network.firsts.now }
+        requires own { touches self.now.network.firsts.now self.now.network.seconds.now l v ≡ true }
+        ensures { Before self.now.network.firsts.now self.now.network.seconds.now v l (behind result) }
+    {
+        if self.network.firsts[l] == v {
+            return line_of(self.before_first[l]);
+        }
+        line_of(self.before_second[l])
+    }
+
+    // The other end of line l of node u.
+    #[tactic(auto, unfolding(crate::specs::Search::far_end_of))]
+    pub fn far_end(&self, l: usize, u: usize) -> usize
+        requires { l < length self.now.network.firsts.now }
+        ensures device { result < 128 }
+        ensures end { result ≡ far_end_of self.now.network.firsts.now self.now.network.seconds.now l u }
+    {
+        if self.network.firsts[l] == u {
+            return self.network.seconds[l];
+        }
+        self.network.firsts[l]
+    }
 }

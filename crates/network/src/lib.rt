@@ -8,3 +8,4 @@ mod least;
 mod owners;
 mod path;
 mod reach;
+mod spare;

@@ -8,8 +8,8 @@ use native.Mathlib.Nat.{not-suc-le-zero, eq-or-lt_of_le, le_of_suc-le-suc}
 use native.Mathlib.Decide.{dec_lt}
 use native.Mathlib.Numerals.{add-one}
 use native.Mathlib.Omega.{arith}
-use lib.ListN.{length, get_or, set, drop, length-set, length-append, length-drop, get_or-append}
-use lib.Seq.{ext_get_or, get_or-set_same, get_or-set_other, get_or-append-add, get_or-drop, drop-append_seam, set_at, drop-cons}
+use lib.ListN.{length, get_or, set, take, drop, length-set, length-append, length-drop, get_or-append}
+use lib.Seq.{ext_get_or, get_or-take, length-take-le, get_or-set_same, get_or-set_other, get_or-append-add, get_or-drop, drop-append_seam, set_at, drop-cons}
 use Rattle.rules.specs.Groups.{table}
 use Rattle.rules.proofs.LabelLaws.{length-table, get_or-table, table-agree}
 use Rattle.rules.proofs.DistinctLaws.{table-snoc}
@@ -114,3 +114,16 @@ unfolding over
 over-more v f old x h e =
     rw (add-one, length-table, length-table, drop-cons old v 0, table-snoc, e, set_at (table v f) (get_or old v 0) (drop (suc v) old) (f v) v (length-table v f))
     (sym (append_assoc (table v f) (f v ∷ []) (drop (suc v) old)))
+
+-- the front of a list, where its entries are f's
+pub take-table : (n : ℕ) (f : ℕ → ℕ) (ms : List ℕ) → n ≤ length ms → ((v : ℕ) → v < n → get_or ms v 0 ≡ f v) → take n ms ≡ table n f
+take-table n f ms l e =
+    let long : length (take n ms) ≡ n = length-take-le n ms l in
+    ext_get_or 0 (take n ms) (table n f) (long ∙ sym (length-table n f))
+    (λ i h. let b : i < n = subst (λ (k : ℕ). i < k) long h in get_or-take n ms i 0 b ∙ e i b ∙ sym (get_or-table n f i b))
+
+-- the front of a list is copied to the front of another
+pub over-copied : (n : ℕ) (f : ℕ → ℕ) (new ms old : List ℕ) → new ≡ take n ms → n ≤ length ms → ((v : ℕ) → v < n → get_or ms v 0 ≡ f v)
+    → new ++ drop n old ≡ over (table n f) old
+unfolding over
+over-copied n f new ms old e l h = rw (e, take-table n f ms l h, length-table n f) refl

@@ -2,6 +2,7 @@
 --     Statements    document 01's sentences on cuts, communities and groups, as it says them
 --     Figures       K1 to K12
 --     RefusalLaws   the first fault: 0 exactly for an accepted plant
+--     FaultLaws     no fault has number 0, and number and place determine it
 --     PlantLaws     an accepted plant: a pair occurs once, all signals together
 --     SetLaws       small laws of tests and sets that the others cite
 --     SumLaws       sums of numbers, and out and size as sums
@@ -37,6 +38,7 @@
 --     Order         the same in any order of the devices
 pub mod Figures
 pub mod RefusalLaws
+pub mod FaultLaws
 pub mod SetLaws
 pub mod PlantLaws
 pub mod SumLaws

@@ -11,7 +11,7 @@ use borrow.Author.Tests.{eq-eqb, ne_eqb, lt-leb, le-ltb, eqb-true, eqb-false, le
 use lib.Dec.{leb, eqb}
 use lib.ListN.{length, get_or}
 use Rattle.rules.proofs.SetLaws.{and_left, and_right, or-off-left, or-off-right, not-off}
-use Rattle.rules.specs.declared.Refusal.{Refusal}
+use Rattle.rules.specs.Refusal.{Refusal}
 use Rattle.rules.specs.Plant.{lines_of, plant_of}
 use Rattle.rules.specs.Accepted.{EndsBelow, Sound, Accepted}
 use Rattle.rules.specs.Refusals.{done, cause, or_else, first_of, devices_fault, lists_fault, rises, line_fault, lines_from, lines_fault, Kind, of_text, of_devices, of_lists, of_lines, after_plant, fixed_order, in_order, nothing, about, plant_says, plant_fault}

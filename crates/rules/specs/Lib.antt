@@ -6,6 +6,8 @@
 --     Groups      the group of a device, its label, the labels at a rate
 --     Sweep       the owners of devices, by going through the devices once
 --     Rates       accepted rates, order of fractions, lowest terms
+--     Refusal     the number and the place that a call answers
+--     Faults      the number and the place of each fault
 --     Refusals    each cause of a refusal, and the first in the fixed order
 --     Lists       a lent list after a call
 --     Hierarchy   levels, low rates and joining rates
@@ -28,6 +30,8 @@ pub mod Community
 pub mod Groups
 pub mod Sweep
 pub mod Rates
+pub mod Refusal
+pub mod Faults
 pub mod Refusals
 pub mod Lists
 pub mod Hierarchy

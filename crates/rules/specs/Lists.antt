@@ -1,7 +1,7 @@
 -- Document 01, "What a call fills": a lent list after a call.
 -- Assumes nothing.
 use Rattle.std.specs.Prelude.{cond, List, ◌++◌, ℕ, eqb, length, drop}
-use Rattle.rules.specs.declared.Refusal.{Refusal}
+use Rattle.rules.specs.Refusal.{Refusal}
 
 -- "Longer lists are taken, and entries past those filled stay untouched.": the entries of new, and then what stood past them
 unfoldable pub over : List ℕ → List ℕ → List ℕ

@@ -1,7 +1,7 @@
 -- Document 01, "Refusal numbers": each cause, and the first in the fixed order.
 -- Assumes nothing.
 use Rattle.std.specs.Prelude.{ℕ, zero, suc, Bool, true, not, ◌&&◌, ◌||◌, cond, List, [], ◌∷◌, map, leb, ltb, eqb, length, get_or}
-use Rattle.rules.specs.declared.Refusal.{Refusal}
+use Rattle.rules.specs.Refusal.{Refusal}
 use Rattle.rules.specs.Rates.{rate_ok}
 
 -- "0 means done, with place 0."

@@ -8,7 +8,7 @@ use mathlib.Core.List.{List, ◌++◌}
 use lib.Dec.{ltb}
 use lib.ListN.{length, length-append}
 use borrow.Author.Tests.{ne_eqb, lt-ltb, le-ltb}
-use Rattle.rules.specs.declared.Refusal.{Refusal}
+use Rattle.rules.specs.Refusal.{Refusal}
 use Rattle.rules.specs.Refusals.{done, cause, or_else, first_of, room_fault, after_plant, nothing, about, plant_says, plant_fault}
 use Rattle.rules.specs.Accepted.{Accepted}
 use Rattle.rules.specs.Lists.{over}

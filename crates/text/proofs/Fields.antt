@@ -1,32 +1,27 @@
--- A number, a field and a row at a place of a text, by what was found on the way, and that each lies within the text.
+-- A number, a field and a row at the front of the bytes that are left, by what was found on the way.
 -- Assumes nothing.
 use Prim.Native.Nat.{ℕ, zero, suc, ◌+◌, ◌*◌, ◌-◌, ◌^◌, ◌≤◌, ◌<◌, zero-le, suc-le-suc}
-use native.Mathlib.Nat.{suc-ne-zero, add_assoc, add-zero, lt_of_lt_of_le, le_trans, le_of_eq, mul-le-mul_right, mul_assoc, le-mul_of_pos_right, one-le-pow, zero-lt-suc, pow-succ'}
+use native.Mathlib.Nat.{lt_of_lt_of_le, le_trans, le_of_eq, mul-le-mul_right, mul_assoc, le-mul_of_pos_right, one-le-pow, zero-lt-suc, pow-succ'}
 use native.Mathlib.Omega.{arith}
 use mathlib.Core.Path.{◌≡◌, refl, sym, ap, ◌∙◌}
-use mathlib.Core.Bool.{Bool, true, false, ◌&&◌, cond, true≢false}
+use mathlib.Core.Bool.{Bool, true, false, not, ◌&&◌, cond, true≢false}
 use mathlib.Core.List.{List, [], ◌∷◌}
 use lib.Dec.{leb, eqb}
-use lib.ListN.{length, get_or, drop, length-drop}
-use lib.Seq.{drop-drop, get_or-drop}
-use borrow.Author.Tests.{eq-eqb, ne_eqb, leb-true}
-use Rattle.text.specs.declared.Number.{Number}
-use Rattle.text.specs.declared.Row.{Row}
-use Rattle.text.specs.Numbers.{is_digit, run, value_of, stated, no_number, well_formed, number_from, number_of}
-use Rattle.text.specs.Lines.{begins, newline, comma, line_key, field_rest, field, no_row, row_of, row_second, row_first, row}
+use lib.ListN.{length, get_or, take, drop}
+use lib.Seq.{drop-drop}
+use borrow.Author.Tests.{leb-true}
+use Rattle.std.specs.Prelude.{None, Some}
+use Rattle.std.specs.Bool.{then_some}
+use Rattle.std.proofs.lemmas.Option.{none-some, same_Some}
+use Rattle.text.proofs.Steps.{both_right, Read}
+use Rattle.text.specs.Numbers.{Number, is_digit, run, value_of, no_number, well_formed, number_from, number_of}
+use Rattle.text.specs.Lines.{begins, newline, comma, line_key, field_rest, field, row_of, row_second, row_first, row}
+use Rattle.text.specs.Told.{told_number, told_word, told_row}
 
 -- one of two, by a test
 pub by_cond : {A : Type 0} (P : A → Type 0) (b : Bool) {x y : A} → (b ≡ true → P x) → (b ≡ false → P y) → P (cond b x y)
 by_cond P true f g = f refl
 by_cond P false f g = g refl
-
-pub both_left : (a b : Bool) → a && b ≡ true → a ≡ true
-both_left true b e = refl
-both_left false b e = e
-
-pub both_right : (a b : Bool) → a && b ≡ true → b ≡ true
-both_right true b e = e
-both_right false b e = absurd (true≢false (sym e))
 
 pub begins-fits : (w l : List ℕ) → begins w l ≡ true → length w ≤ length l
 unfolding begins
@@ -41,225 +36,130 @@ run_fits (suc k) [] = zero-le
 run_fits (suc k) (b ∷ l) =
     by_cond (λ (r : List ℕ). length r ≤ suc (length l)) (is_digit b) (λ e. suc-le-suc (run_fits k l)) (λ e. zero-le)
 
--- the first digit is the first byte
-pub run-first : (k : ℕ) (l : List ℕ) → (length (run k l) ≡ 0 → ⊥) → get_or (run k l) 0 0 ≡ get_or l 0 0
+pub run-front : (k : ℕ) (l : List ℕ) → take (length (run k l)) l ≡ run k l
 unfolding run
-run-first zero l h = absurd (h refl)
-run-first (suc k) [] h = absurd (h refl)
-run-first (suc k) (b ∷ l) h = go (is_digit b) h
-  where
-    go : (d : Bool) → (length (cond d (b ∷ run k l) []) ≡ 0 → ⊥) → get_or (cond d (b ∷ run k l) []) 0 0 ≡ b
-    go true h = refl
-    go false h = absurd (h refl)
+run-front zero l = refl
+run-front (suc k) [] = refl
+run-front (suc k) (b ∷ l) =
+    by_cond (λ (r : List ℕ). take (length r) (b ∷ l) ≡ r) (is_digit b) (λ e. ap (λ (r : List ℕ). b ∷ r) (run-front k l)) (λ e. refl)
 
--- what digits state, by how many they are and by the first
-module _ (ds : List ℕ) where
-  pub stated-none : length ds ≡ 0 → no_number ≡ number_from ds
-  unfolding number_from well_formed
-  stated-none = go ds
-    where
-      go : (ds : List ℕ) → length ds ≡ 0 → no_number ≡ number_from ds
-      go [] e = refl
-      go (b ∷ ds) e = absurd (suc-ne-zero _ e)
+-- whether digits are a number, by how many they are and by the first
+pub formed-none : (ds : List ℕ) → length ds < 1 → false ≡ well_formed ds
+unfolding well_formed
+formed-none [] h = refl
+formed-none (b ∷ ds) h = absurd (omega arith)
 
-  pub stated-one : length ds ≡ 1 → stated ds ≡ number_from ds
-  unfolding number_from well_formed
-  stated-one = go ds
-    where
-      go : (ds : List ℕ) → length ds ≡ 1 → stated ds ≡ number_from ds
-      go [] e = absurd (omega arith)
-      go (b ∷ []) e = refl
-      go (b ∷ c ∷ ds) e = absurd (omega arith)
+pub formed-one : (ds : List ℕ) → 1 ≤ length ds → length ds < 2 → true ≡ well_formed ds
+unfolding well_formed
+formed-one [] h k = absurd (omega arith)
+formed-one (b ∷ []) h k = refl
+formed-one (b ∷ c ∷ ds) h k = absurd (omega arith)
 
-  pub stated-zero : (length ds ≡ 0 → ⊥) → (length ds ≡ 1 → ⊥) → get_or ds 0 0 ≡ 48 → no_number ≡ number_from ds
-  unfolding number_from well_formed
-  stated-zero = go ds
-    where
-      go : (ds : List ℕ) → (length ds ≡ 0 → ⊥) → (length ds ≡ 1 → ⊥) → get_or ds 0 0 ≡ 48 → no_number ≡ number_from ds
-      go [] h k e = absurd (h refl)
-      go (b ∷ []) h k e = absurd (k refl)
-      go (b ∷ c ∷ ds) h k e = rw (eq-eqb b 48 e) refl
+pub formed-more : (ds : List ℕ) → 2 ≤ length ds → not (eqb (get_or ds 0 0) 48) ≡ well_formed ds
+unfolding well_formed
+formed-more [] h = absurd (omega arith)
+formed-more (b ∷ []) h = absurd (omega arith)
+formed-more (b ∷ c ∷ ds) h = refl
 
-  pub stated-more : (length ds ≡ 0 → ⊥) → (length ds ≡ 1 → ⊥) → (get_or ds 0 0 ≡ 48 → ⊥) → stated ds ≡ number_from ds
-  unfolding number_from well_formed
-  stated-more = go ds
-    where
-      go : (ds : List ℕ) → (length ds ≡ 0 → ⊥) → (length ds ≡ 1 → ⊥) → (get_or ds 0 0 ≡ 48 → ⊥) → stated ds ≡ number_from ds
-      go [] h k e = absurd (h refl)
-      go (b ∷ []) h k e = absurd (k refl)
-      go (b ∷ c ∷ ds) h k e = rw (ne_eqb b 48 e) refl
+-- a number at the front of m, which is l, by what was found of its digits: g whether they are a number
+module _ {m l : List ℕ} (e : m ≡ l) {v count : ℕ} (r : Read m v count) where
+  pub digits-within : count ≤ length m
+  digits-within = omega (arith, r.1, run_fits 9 m)
 
-pub number_fits : (l : List ℕ) → (number_of l).used ≤ length l
-unfolding number_of number_from
-number_fits l = by_cond (λ (v : Number). v.used ≤ length l) (well_formed (run 9 l)) (λ e. run_fits 9 l) (λ e. zero-le)
+  module _ {g : Bool} (w : g ≡ well_formed (take count m)) where
+    formed : well_formed (run 9 l) ≡ g
+    formed = rw (← e) (sym (w ∙ ap (λ (k : ℕ). well_formed (take k m)) r.1 ∙ ap well_formed (run-front 9 m)))
 
-pub field_fits : (key stop l : List ℕ) → (field key stop l).used ≤ length l
-unfolding field field_rest
-field_fits key stop l =
-    by_cond within (begins key l) (λ e. by_cond within (v.ok && begins stop end) (λ h. all e (both_right v.ok (begins stop end) h)) (λ h. zero-le)) (λ e. zero-le)
-  where
-    v : Number
-    v = number_of (drop (length key) l)
+    pub number-none : g ≡ false → number_of l ≡ no_number
+    unfolding number_of number_from
+    number-none h = rw (formed ∙ h) refl
 
-    end : List ℕ
-    end = drop (length key + v.used) l
+    pub number-good : g ≡ true → number_of l ≡ record { ok = true; value = v; used = count }
+    unfolding number_of number_from
+    number-good h =
+        rw (formed ∙ h, ← e)
+        (λ i. record { ok = true; value = sym r.0 i; used = sym r.1 i })
 
-    within : Number → Type 0
-    within n = n.used ≤ length l
+-- what an answer says of the test behind it
+pub then-none : {A : Type 0} (b : Bool) (x : A) → None ≡ then_some b x → b ≡ false
+then-none true x e = absurd (none-some x e)
+then-none false x e = refl
 
-    all : begins key l ≡ true → begins stop end ≡ true → length key + v.used + length stop ≤ length l
-    all e h =
-        omega (
-          arith,
-          begins-fits key l e,
-          length-drop (length key) l,
-          number_fits (drop (length key) l),
-          length-drop (length key + v.used) l,
-          begins-fits stop end h,
-        )
+pub then-is : {A : Type 0} (b : Bool) (x y : A) → Some y ≡ then_some b x → (b ≡ true) × (y ≡ x)
+then-is true x y e = (refl, same_Some y x e)
+then-is false x y e = absurd (none-some y (sym e))
 
--- a field at a place, by what was found of its parts: g whether the key is there, v the number after it, s whether the end is there
-module _ (t key stop : List ℕ) (at : ℕ) {g : Bool} (e : g ≡ begins key (drop at t)) where
-  pub field-no-key : g ≡ false → no_number ≡ field key stop (drop at t)
+-- a field at the front of l, by what was found of its parts: l₁ is what follows the key, and l₂ what follows the number
+module _ (key stop l : List ℕ) where
+  pub field-no-key : None ≡ told_word (begins key l) → None ≡ told_number (field key stop l)
   unfolding field
-  field-no-key h = rw (sym e ∙ h) refl
+  field-no-key h = rw (then-none _ _ h) refl
 
-  pub key-within : g ≡ true → at ≤ length t → at + length key ≤ length t
-  key-within h p = omega (arith, begins-fits key (drop at t) (sym e ∙ h), length-drop at t)
-
-  module _ (h : g ≡ true) {v : Number} (w : v ≡ number_of (drop (at + length key) t)) where
-    pub number-within : at ≤ length t → at + length key + v.used ≤ length t
-    number-within p =
-        omega (arith, key-within h p, length-drop (at + length key) t, number_fits (drop (at + length key) t), ap (λ (n : Number). n.used) w)
-
-    pub field-no-number : v.ok ≡ false → no_number ≡ field key stop (drop at t)
+  module _ (k : Some tt ≡ told_word (begins key l)) {l₁ : List ℕ} (m : l₁ ≡ drop (length key) l) where
+    pub field-no-number : None ≡ told_number (number_of l₁) → None ≡ told_number (field key stop l)
     unfolding field field_rest
-    field-no-number o = rw (sym e ∙ h, drop-drop (length key) at t, sym w, o) refl
+    field-no-number h = rw ((then-is _ _ _ k).0, ← m, then-none _ _ h) refl
 
-    module _ {s : Bool} (z : s ≡ begins stop (drop (at + length key + v.used) t)) where
-      pub stop-within : at ≤ length t → s ≡ true → at + length key + v.used + length stop ≤ length t
-      stop-within p q =
-          omega (
-            arith,
-            number-within p,
-            begins-fits stop (drop (at + length key + v.used) t) (sym z ∙ q),
-            length-drop (at + length key + v.used) t,
-          )
+    module _ {v : ℕ} (n : Some v ≡ told_number (number_of l₁)) {l₂ : List ℕ} (m₂ : l₂ ≡ drop (number_of l₁).used l₁) where
+      place : drop (length key + (number_of l₁).used) l ≡ l₂
+      place = sym (drop-drop (number_of l₁).used (length key) l) ∙ rw (← m) (sym m₂)
 
-      same_place : drop (length key + v.used) (drop at t) ≡ drop (at + length key + v.used) t
-      same_place = drop-drop (length key + v.used) at t ∙ rw add_assoc refl
-
-      found : field key stop (drop at t) ≡ cond (v.ok && s) (record { ok = true; value = v.value; used = length key + v.used + length stop }) no_number
+      found : field key stop l
+          ≡ cond (begins stop l₂) (record { ok = true; value = v; used = length key + (number_of l₁).used + length stop }) no_number
       unfolding field field_rest
-      found = rw (sym e ∙ h, drop-drop (length key) at t, sym w, same_place, sym z) refl
+      found = rw ((then-is _ _ _ k).0, ← m, (then-is _ _ _ n).0, place, (then-is _ _ _ n).1) refl
 
-      pub field-no-stop : v.ok ≡ true → s ≡ false → no_number ≡ field key stop (drop at t)
-      field-no-stop o q = sym (found ∙ rw (o, q) refl)
+      pub field-no-stop : None ≡ told_word (begins stop l₂) → None ≡ told_number (field key stop l)
+      field-no-stop h = rw (found, then-none _ _ h) refl
 
-      pub field-good : v.ok ≡ true → s ≡ true
-          → record { ok = true; value = v.value; used = length key + v.used + length stop } ≡ field key stop (drop at t)
-      field-good o q = sym (found ∙ rw (o, q) refl)
+      module _ (s : Some tt ≡ told_word (begins stop l₂)) where
+        field-is : field key stop l ≡ record { ok = true; value = v; used = length key + (number_of l₁).used + length stop }
+        field-is = found ∙ rw ((then-is _ _ _ s).0) refl
 
--- a number at a place, by what was found of its digits
-module _ (t : List ℕ) (at : ℕ) {d : Number} (e : d ≡ stated (run 9 (drop at t))) where
-  used : length (run 9 (drop at t)) ≡ d.used
-  used = sym (ap (λ (n : Number). n.used) e)
+        pub field-good : Some v ≡ told_number (field key stop l)
+        field-good = rw field-is refl
 
-  first : (d.used ≡ 0 → ⊥) → get_or (run 9 (drop at t)) 0 0 ≡ get_or t at 0
-  first h = run-first 9 (drop at t) (λ z. h (sym used ∙ z)) ∙ get_or-drop at t 0 0 ∙ ap (λ (i : ℕ). get_or t i 0) (add-zero at)
+        pub field-moved : {l₃ : List ℕ} → l₃ ≡ drop (length stop) l₂ → l₃ ≡ drop (field key stop l).used l
+        field-moved h = h ∙ rw (← place) (drop-drop (length stop) (length key + (number_of l₁).used) l ∙ rw field-is refl)
 
-  pub number-none : d.used ≡ 0 → no_number ≡ number_of (drop at t)
-  unfolding number_of
-  number-none h = stated-none _ (used ∙ h)
-
-  pub number-one : d.used ≡ 1 → d ≡ number_of (drop at t)
-  unfolding number_of
-  number-one h = e ∙ stated-one _ (used ∙ h)
-
-  pub number-place : (d.used ≡ 0 → ⊥) → at < length t
-  number-place h = omega (arith, used, run_fits 9 (drop at t), length-drop at t, h)
-
-  pub number-zero : (d.used ≡ 0 → ⊥) → (d.used ≡ 1 → ⊥) → get_or t at 0 ≡ 48 → no_number ≡ number_of (drop at t)
-  unfolding number_of
-  number-zero h k z = stated-zero _ (λ y. h (sym used ∙ y)) (λ y. k (sym used ∙ y)) (first h ∙ z)
-
-  pub number_more : (d.used ≡ 0 → ⊥) → (d.used ≡ 1 → ⊥) → (get_or t at 0 ≡ 48 → ⊥) → d ≡ number_of (drop at t)
-  unfolding number_of
-  number_more h k z = e ∙ stated-more _ (λ y. h (sym used ∙ y)) (λ y. k (sym used ∙ y)) (λ y. z (sym (first h) ∙ y))
-
--- a row at a place, by its fields a, b and s
-module _ (t : List ℕ) (at : ℕ) {a : Number} (ea : a ≡ field line_key comma (drop at t)) where
-  pub first-within : at ≤ length t → at + a.used ≤ length t
-  first-within p = omega (arith, length-drop at t, field_fits line_key comma (drop at t), ap (λ (n : Number). n.used) ea)
-
-  pub row-no-first : a.ok ≡ false → no_row ≡ row (drop at t)
+-- a row at the front of l, by what was found of its fields: l₁ and l₂ are what follows the first and the second
+module _ (l : List ℕ) where
+  pub row-no-first : None ≡ told_number (field line_key comma l) → None ≡ told_row (row l)
   unfolding row row_first
-  row-no-first h = rw (sym ea, h) refl
+  row-no-first h = rw (then-none _ _ h) refl
 
-  module _ (ha : a.ok ≡ true) {b : Number} (eb : b ≡ field [] comma (drop (at + a.used) t)) where
-    pub second-within : at ≤ length t → at + a.used + b.used ≤ length t
-    second-within p =
-        omega
-        (arith, first-within p, length-drop (at + a.used) t, field_fits [] comma (drop (at + a.used) t), ap (λ (n : Number). n.used) eb)
-
-    pub row-no-second : b.ok ≡ false → no_row ≡ row (drop at t)
+  module _ {a : ℕ} (ha : Some a ≡ told_number (field line_key comma l)) {l₁ : List ℕ} (m : l₁ ≡ drop (field line_key comma l).used l) where
+    pub row-no-second : None ≡ told_number (field [] comma l₁) → None ≡ told_row (row l)
     unfolding row row_first row_second
-    row-no-second h = rw (sym ea, ha, drop-drop a.used at t, sym eb, h) refl
+    row-no-second h = rw ((then-is _ _ _ ha).0, ← m, then-none _ _ h) refl
 
-    module _ (hb : b.ok ≡ true) {s : Number} (es : s ≡ field [] newline (drop (at + a.used + b.used) t)) where
-      pub third-within : at ≤ length t → at + a.used + b.used + s.used ≤ length t
-      third-within p =
-          omega (
-            arith,
-            second-within p,
-            length-drop (at + a.used + b.used) t,
-            field_fits [] newline (drop (at + a.used + b.used) t),
-            ap (λ (n : Number). n.used) es,
-          )
+    module _ {b : ℕ} (hb : Some b ≡ told_number (field [] comma l₁)) {l₂ : List ℕ} (m₂ : l₂ ≡ drop (field [] comma l₁).used l₁) where
+      third : drop ((field line_key comma l).used + (field [] comma l₁).used) l ≡ l₂
+      third = sym (drop-drop (field [] comma l₁).used (field line_key comma l).used l) ∙ rw (← m) (sym m₂)
 
-      place : drop (a.used + b.used) (drop at t) ≡ drop (at + a.used + b.used) t
-      place = drop-drop (a.used + b.used) at t ∙ rw add_assoc refl
-
-      row_is : row (drop at t) ≡ row_of a b s
+      row_is : row l ≡ row_of (field line_key comma l) (field [] comma l₁) (field [] newline l₂)
       unfolding row row_first row_second
-      row_is = rw (sym ea, ha, drop-drop a.used at t, sym eb, hb, place, sym es) refl
+      row_is = rw ((then-is _ _ _ ha).0, ← m, (then-is _ _ _ hb).0, third) refl
 
-      pub row-no-third : s.ok ≡ false → no_row ≡ row (drop at t)
+      pub row-no-third : None ≡ told_number (field [] newline l₂) → None ≡ told_row (row l)
       unfolding row_of
-      row-no-third h = sym (row_is ∙ rw h refl)
+      row-no-third h = rw (row_is, then-none _ _ h) refl
 
-      pub row-good : s.ok ≡ true
-          → record { ok = true; first = a.value; second = b.value; signals = s.value; used = a.used + b.used + s.used } ≡ row (drop at t)
-      unfolding row_of
-      row-good h = sym (row_is ∙ rw h refl)
+      module _ {s : ℕ} (hs : Some s ≡ told_number (field [] newline l₂)) where
+        row-found : row l
+            ≡ record { ok = true; first = a; second = b; signals = s; used = (field line_key comma l).used + (field [] comma l₁).used + (field [] newline l₂).used }
+        unfolding row_of
+        row-found = row_is ∙ rw ((then-is _ _ _ hs).0, (then-is _ _ _ ha).1, (then-is _ _ _ hb).1, (then-is _ _ _ hs).1) refl
 
-pub row_fits : (l : List ℕ) → (row l).used ≤ length l
-unfolding row row_first row_second row_of
-row_fits l =
-    by_cond within a.ok (λ p. by_cond within b.ok (λ q. by_cond within s.ok (λ r. all) (λ r. zero-le)) (λ q. zero-le)) (λ p. zero-le)
-  where
-    within : Row → Type 0
-    within r = r.used ≤ length l
+        pub row-good : Some (record { first = a; second = b; signals = s }) ≡ told_row (row l)
+        row-good = rw row-found refl
 
-    a : Number
-    a = field line_key comma l
-
-    b : Number
-    b = field [] comma (drop a.used l)
-
-    s : Number
-    s = field [] newline (drop (a.used + b.used) l)
-
-    all : a.used + b.used + s.used ≤ length l
-    all =
-        omega (
-          arith,
-          field_fits line_key comma l,
-          field_fits [] comma (drop a.used l),
-          length-drop a.used l,
-          field_fits [] newline (drop (a.used + b.used) l),
-          length-drop (a.used + b.used) l,
-        )
+        pub row-moved : {l₃ : List ℕ} → l₃ ≡ drop (field [] newline l₂).used l₂ → l₃ ≡ drop (row l).used l
+        row-moved h =
+            h
+            ∙ ap (drop (field [] newline l₂).used) (sym third)
+            ∙ drop-drop (field [] newline l₂).used ((field line_key comma l).used + (field [] comma l₁).used) l
+            ∙ rw row-found refl
 
 -- k digits after v state less than (v + 1) · 10ᵏ
 lower : (k v : ℕ) → v < suc v * 10 ^ k

@@ -9,15 +9,18 @@ use mathlib.Core.List.{List}
 use lib.Dec.{ltb, eqb}
 use lib.ListN.{length, take, drop, length-take}
 use borrow.Author.Tests.{eq-eqb, ne_eqb, lt-ltb, le-ltb, ltb-false, eqb-true, not-false}
-use Rattle.rules.specs.declared.Refusal.{Refusal}
+use Rattle.std.specs.Prelude.{Ok, Err}
+use Rattle.rules.specs.Refusal.{Refusal}
 use Rattle.rules.specs.Refusals.{done, cause, or_else, first_of, devices_fault, lists_fault, lines_fault, after_plant, fixed_order, in_order, nothing, about, plant_fault}
 use Rattle.rules.specs.Lists.{over}
 use Rattle.rules.proofs.RefusalLaws.{or_else-assoc, done_next, Clean, clean-cause, clean-or_else, or_else-done, or_else-first, or_else-next, or_else-left, or_else-right, devices-clean, lists-clean, plant-is, plant-clean}
-use Rattle.text.specs.declared.Row.{Row}
-use Rattle.text.specs.declared.Form.{Form}
-use Rattle.text.specs.declared.Reading.{Reading}
-use Rattle.text.specs.Form.{form}
+use Rattle.text.specs.Lines.{Row}
+use Rattle.text.specs.Reading.{Reading}
+use Rattle.text.specs.declared.whole.Stated.{Stated}
+use Rattle.text.specs.Form.{Form, form, column}
 use Rattle.text.specs.Reading.{long_fault, form_fault_of, values_of, firsts_of, seconds_of, signals_of, no_room_of, rooms_fault, read_fault, read_answer, refused_with, read_list, ReadIs, size_fault_of, head_fault_of}
+use Rattle.text.specs.Told.{told_form}
+use Rattle.text.proofs.Forms.{stated-is, stated_none}
 use Rattle.text.proofs.Lists.{column-length}
 
 -- what the form is refused for
@@ -79,14 +82,23 @@ pub values_length : (f : Row → ℕ) (t : List ℕ) → length (values_of f t) 
 unfolding values_of
 values_length f t = column-length f (form t).lines (drop (form t).at t)
 
--- what is known once the first lines are good and the rows are kept: f is the form, and us, vs and ws are the numbers of the rows
-pub record Known (t : List ℕ) (f : Form) (us vs ws : List ℕ) : Type 0 where
+-- what is known once the form and the stated numbers n and m are good and the rows are kept: us, vs and ws are the numbers of the rows
+pub record Known (t : List ℕ) (n m : ℕ) (us vs ws : List ℕ) : Type 0 where
   pub short : length t ≤ 32768
-  pub is_form : f ≡ form t
+  pub devices : n ≡ (form t).devices
+  pub lines : m ≡ (form t).lines
   pub head : head_fault_of (form t) ≡ done
   pub firsts : us ≡ firsts_of t
   pub seconds : vs ≡ seconds_of t
   pub signals : ws ≡ signals_of t
+
+-- the numbers of the rows are as many as the stated lines
+pub known-lengths : {t : List ℕ} {n m : ℕ} {us vs ws : List ℕ} → Known t n m us vs ws → (length us ≡ m) × (length vs ≡ m) × (length ws ≡ m)
+known-lengths {t} k = (
+  ap length k.firsts ∙ values_length (λ w. w.first) t ∙ sym k.lines,
+  ap length k.seconds ∙ values_length (λ w. w.second) t ∙ sym k.lines,
+  ap length k.signals ∙ values_length (λ w. w.signals) t ∙ sym k.lines,
+)
 
 pub cause-off : (b : Bool) (k place : ℕ) → cause b (suc k) place ≡ done → b ≡ false
 unfolding cause done
@@ -156,6 +168,37 @@ read-refused t xs ys zs {r} e h q =
       signals = rw (e, ne_eqb r.number 0 h) refl;
     }
 
+module _ (t : List ℕ) {s : Stated} (e : Ok s ≡ told_form t (form t)) {r : Refusal} (z : r ≡ size_fault_of s.devices s.lines) where
+  stated-head : r ≡ head_fault_of (form t)
+  unfolding head_fault_of done
+  stated-head =
+      z
+      ∙ ap (λ (x : Stated). size_fault_of x.devices x.lines) (stated-is t e).1
+      ∙ sym (or_else-next {r = form_fault_of (form t).line} (size_fault_of (form t).devices (form t).lines) (sym (form-right (form t).line (stated-is t e).0)))
+
+  module _ (g : r.number ≡ 0) where
+    stated-done : head_fault_of (form t) ≡ done
+    stated-done = sym stated-head ∙ (subst Clean (sym stated-head) (head-clean (form t))).whole g
+
+    pub stated-few : s.lines ≤ 1024
+    stated-few = rw (stated-is t e).1 (head_few (form t) stated-done)
+
+    -- after the rows are kept
+    pub known : length t ≤ 32768 → {m : ℕ} {a b c : List ℕ} → m ≡ s.lines
+        → (a ≡ column (λ w. w.first) m s.rows) × (b ≡ column (λ w. w.second) m s.rows) × (c ≡ column (λ w. w.signals) m s.rows)
+        → Known t s.devices s.lines a b c
+    unfolding values_of
+    known short h k =
+        record {
+          short = short;
+          devices = ap (λ (x : Stated). x.devices) (stated-is t e).1;
+          lines = ap (λ (x : Stated). x.lines) (stated-is t e).1;
+          head = stated-done;
+          firsts = k.0 ∙ ap (λ (n : ℕ). column (λ w. w.first) n s.rows) h ∙ ap (λ (x : Stated). column (λ w. w.first) x.lines x.rows) (stated-is t e).1;
+          seconds = k.1 ∙ ap (λ (n : ℕ). column (λ w. w.second) n s.rows) h ∙ ap (λ (x : Stated). column (λ w. w.second) x.lines x.rows) (stated-is t e).1;
+          signals = k.2 ∙ ap (λ (n : ℕ). column (λ w. w.signals) n s.rows) h ∙ ap (λ (x : Stated). column (λ w. w.signals) x.lines x.rows) (stated-is t e).1;
+        }
+
 module _ (t xs ys zs : List ℕ) where
   pub read-long : {w : Reading} → 32768 < length t → w ≡ refused_with 14 0 → ReadIs t xs ys zs w xs ys zs
   unfolding long_fault cause or_else
@@ -169,7 +212,19 @@ module _ (t xs ys zs : List ℕ) where
       read-refused t xs ys zs
       (read-order t _ _ _ ∙ rw (long-not (length t) h, done_next, sym e) (or_else-first r _ k)) k q
 
-  module _ {f : Form} {us vs ws : List ℕ} (k : Known t f us vs ws) {r : Refusal} (p : r ≡ plant_fault f.devices us vs ws) where
+  pub read-form : {k : ℕ} {w : Reading} → length t ≤ 32768 → Err k ≡ told_form t (form t) → w ≡ refused_with 15 k → ReadIs t xs ys zs w xs ys zs
+  unfolding head_fault_of
+  read-form {k} h e q =
+      let n : ((form t).line ≡ k) × (k ≡ 0 → ⊥) = stated_none t e in
+      let wrong : form_fault_of (form t).line ≡ record { number = 15; place = k } = rw n.0 (sym (form-wrong k n.1)) in
+      read_head {r = record { number = 15; place = k }} h
+      (rw wrong (sym (or_else-first (record { number = 15; place = k }) _ (λ z. absurd (omega (arith, z)))))) (λ z. absurd (omega (arith, z))) q
+
+  pub read-size : {s : Stated} {r : Refusal} {w : Reading} → Ok s ≡ told_form t (form t) → r ≡ size_fault_of s.devices s.lines → length t ≤ 32768
+      → (r.number ≡ 0 → ⊥) → w ≡ refused_with r.number r.place → ReadIs t xs ys zs w xs ys zs
+  read-size e z h k q = read_head h (stated-head t e z) k q
+
+  module _ {n m : ℕ} {us vs ws : List ℕ} (k : Known t n m us vs ws) {r : Refusal} (p : r ≡ plant_fault n us vs ws) where
     plant-next : read_fault t (length xs) (length ys) (length zs) ≡ or_else r (rooms_fault (form t).lines (length xs) (length ys) (length zs))
     plant-next =
         read-order t _ _ _
@@ -182,7 +237,7 @@ module _ (t xs ys zs : List ℕ) where
           sym k.firsts,
           sym k.seconds,
           sym k.signals,
-          sym k.is_form,
+          sym k.devices,
           sym p,
         )
         refl
@@ -194,36 +249,27 @@ module _ (t xs ys zs : List ℕ) where
       r-done : r ≡ done
       r-done = (subst Clean (sym p) (plant-clean _ _ _ _)).whole h
 
-      room_next : read_fault t (length xs) (length ys) (length zs) ≡ rooms_fault f.lines (length xs) (length ys) (length zs)
-      room_next = plant-next ∙ rw (r-done, done_next, sym k.is_form) refl
+      room_next : read_fault t (length xs) (length ys) (length zs) ≡ rooms_fault m (length xs) (length ys) (length zs)
+      room_next = plant-next ∙ rw (r-done, done_next, sym k.lines) refl
 
-      pub read-no-room : {w : Reading} {b : Bool} → b ≡ no_room_of f.lines (length xs) (length ys) (length zs) → b ≡ true → w ≡ refused_with 12 0
+      pub read-no-room : {w : Reading} {b : Bool} → b ≡ no_room_of m (length xs) (length ys) (length zs) → b ≡ true → w ≡ refused_with 12 0
           → ReadIs t xs ys zs w xs ys zs
       unfolding rooms_fault cause
       read-no-room e b q =
           read-refused t xs ys zs {r = record { number = 12; place = 0 }} (room_next ∙ rw (sym e ∙ b) refl) (λ z. absurd (omega (arith, z))) q
 
-      pub read_done : {w : Reading} {as₁ bs₁ cs₁ : List ℕ} {b : Bool} → b ≡ no_room_of f.lines (length xs) (length ys) (length zs) → b ≡ false
-          → w ≡ record { number = 0; place = 0; devices = f.devices; lines = f.lines }
+      pub read_done : {w : Reading} {as₁ bs₁ cs₁ : List ℕ} {b : Bool} → b ≡ no_room_of m (length xs) (length ys) (length zs) → b ≡ false
+          → w ≡ record { number = 0; place = 0; devices = n; lines = m }
           → as₁ ≡ over us xs → bs₁ ≡ over vs ys → cs₁ ≡ over ws zs → ReadIs t xs ys zs w as₁ bs₁ cs₁
       unfolding read_answer read_list rooms_fault cause done
       read_done e b q u v s =
           let right : read_fault t (length xs) (length ys) (length zs) ≡ done = room_next ∙ rw (sym e ∙ b) refl in
           record {
-            answer = q ∙ rw (right, k.is_form) refl;
+            answer = q ∙ rw (right, k.devices, k.lines) refl;
             firsts = u ∙ rw (right, k.firsts) refl;
             seconds = v ∙ rw (right, k.seconds) refl;
             signals = s ∙ rw (right, k.signals) refl;
           }
-
--- a head that is answered 0 is good
-pub head-is-done : (t : List ℕ) {f : Form} {h : Refusal} → f ≡ form t → h ≡ head_fault_of f → h.number ≡ 0 → head_fault_of (form t) ≡ done
-head-is-done t {f} {h} e q z = rw (sym e) (sym q ∙ (subst Clean (sym q) (head-clean f)).whole z)
-
--- the numbers of the rows are as many as the stated lines
-pub known-length : {t : List ℕ} {f : Form} {us vs ws : List ℕ} → Known t f us vs ws → (g : Row → ℕ) {l : List ℕ}
-    → l ≡ values_of g t → length l ≡ f.lines
-known-length {t} k g e = ap length e ∙ values_length g t ∙ ap (λ (x : Form). x.lines) (sym k.is_form)
 
 -- no test of three holds: there is room for m lines in each list
 module _ (m a b c : ℕ) (e : no_room_of m a b c ≡ false) where

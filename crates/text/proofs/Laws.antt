@@ -1,5 +1,6 @@
 -- What reading and writing promise together.
---     read-determined, write-determined     two results that a contract allows are equal
+--     read-determined, write-determined     two results that a contract allows are equal, in what is told of them
+--     read-result-determined, write-result-determined                   and as answers
 --     accepted-exactly                      a text is accepted exactly if it is the text of some accepted plant, and the lists have room
 --     gives-the-plant                       and then it gives that plant
 --     reads-back                            what is written reads back as the same plant
@@ -11,12 +12,17 @@ use mathlib.Core.Logic.{◌↔◌}
 use mathlib.Core.List.{List, ◌++◌}
 use lib.ListN.{length, take}
 use lib.Seq.{take-append_seam, take_at}
-use Rattle.rules.specs.declared.Refusal.{Refusal}
+use Rattle.std.specs.Prelude.{Result, Ok, Err}
+use Rattle.rules.specs.Refusal.{Refusal}
+use Rattle.rules.specs.Faults.{told}
+use Rattle.rules.specs.declared.Fault.{Fault}
+use Rattle.rules.proofs.FaultLaws.{answer-same}
+use Rattle.text.specs.declared.Size.{Size}
 use Rattle.rules.specs.Refusals.{done, room_fault, plant_fault}
 use Rattle.rules.proofs.RefusalLaws.{Clean, clean-cause, clean-or_else, or_else-left, plant-clean}
-use Rattle.text.specs.declared.Row.{Row}
-use Rattle.text.specs.declared.Reading.{Reading}
-use Rattle.text.specs.declared.Written.{Written}
+use Rattle.text.specs.Lines.{Row}
+use Rattle.text.specs.Reading.{Reading, read_told}
+use Rattle.text.specs.Writing.{Written, written_told}
 use Rattle.text.specs.Form.{plant_text, form}
 use Rattle.rules.specs.Lists.{over}
 use Rattle.text.specs.Reading.{values_of, firsts_of, seconds_of, signals_of, read_fault, read_answer, read_list, ReadIs}
@@ -35,6 +41,28 @@ read-determined a b = (a.answer ∙ sym b.answer, a.firsts ∙ sym b.firsts, a.s
 pub write-determined : {n : ℕ} {xs ys zs old : List ℕ} {r r' : Written} {new new' : List ℕ} → WriteIs n xs ys zs old r new → WriteIs n xs ys zs old r' new'
     → (r ≡ r') × (new ≡ new')
 write-determined a b = (a.answer ∙ sym b.answer, a.bytes ∙ sym b.bytes)
+
+-- the same of the answers themselves, which are enums
+pub read-result-determined : {t xs ys zs : List ℕ} {r r' : Result Size Fault} {us vs ws us' vs' ws' : List ℕ}
+    → ReadIs t xs ys zs (read_told r) us vs ws → ReadIs t xs ys zs (read_told r') us' vs' ws' → r ≡ r'
+read-result-determined {r = r} {r' = r'} a b =
+    answer-same read_told (λ c. record { number = c.number; place = c.place }) heads
+    (λ x y h. let n = ap (λ (c : Reading). c.devices) h in let m = ap (λ (c : Reading). c.lines) h in (λ i. record { devices = n i; lines = m i })) r r' (a.answer ∙ sym b.answer)
+  where
+    heads : (r : Result Size Fault) → record { number = (read_told r).number; place = (read_told r).place } ≡ told r
+    heads (Ok s) = refl
+    heads (Err f) = refl
+
+pub written-same : (r r' : Result ℕ Fault) → written_told r ≡ written_told r' → r ≡ r'
+written-same = answer-same written_told (λ c. record { number = c.number; place = c.place }) heads (λ x y h. ap (λ (c : Written). c.count) h)
+  where
+    heads : (r : Result ℕ Fault) → record { number = (written_told r).number; place = (written_told r).place } ≡ told r
+    heads (Ok k) = refl
+    heads (Err f) = refl
+
+pub write-result-determined : {n : ℕ} {xs ys zs old : List ℕ} {r r' : Result ℕ Fault} {new new' : List ℕ}
+    → WriteIs n xs ys zs old (written_told r) new → WriteIs n xs ys zs old (written_told r') new' → r ≡ r'
+write-result-determined {r = r} {r' = r'} a b = written-same r r' (a.answer ∙ sym b.answer)
 
 -- t is the text of the accepted plant that n and the three lists state
 pub record TextOf (t : List ℕ) (n : ℕ) (xs ys zs : List ℕ) : Type 0 where

@@ -1,8 +1,8 @@
 -- The laws of texts, and what the proofs of the functions cite.
 --     Steps       a word and a number, byte by byte
---     Fields      a number, a field and a row at a place, and that each lies within the text
+--     Fields      a number, a field and a row
 --     Forms       rows one after the other, and the form of a whole text
---     Lists       lists that are filled step by step
+--     Lists       lists that are filled with the numbers of rows
 --     Judged      the first fault of a text, and what reading answers and fills
 --     Placed      words written one after the other, and the digits of a number
 --     Wrote       fields, rows and texts written word by word, and how many bytes they take

@@ -8,11 +8,10 @@ use lib.Dec.{eqb}
 use lib.ListN.{length, drop, length-append}
 use lib.Seq.{drop-drop, drop-append_seam}
 use borrow.Author.Tests.{eq-eqb, eqb-true}
-use Rattle.text.specs.declared.Number.{Number}
-use Rattle.text.specs.declared.Row.{Row}
-use Rattle.text.specs.Numbers.{is_digit, number_of, digits}
-use Rattle.text.specs.Lines.{begins, line_key, comma, newline, field_text, field_rest, field, row_text, row_of, row_second, row_first, row}
-use Rattle.text.proofs.Fields.{by_cond, both_left, both_right}
+use Rattle.text.specs.Numbers.{Number, is_digit, number_of, digits}
+use Rattle.text.specs.Lines.{Row, begins, line_key, comma, newline, field_text, field_rest, field, row_text, row_of, row_second, row_first, row}
+use Rattle.text.proofs.Steps.{both_left, both_right}
+use Rattle.text.proofs.Fields.{by_cond}
 use Rattle.text.proofs.Wrote.{field-length}
 use Rattle.text.proofs.NumberLaws.{number-reads, number-written}
 

@@ -12,18 +12,13 @@ use mathlib.Core.List.{List, [], ◌∷◌, ◌++◌, append-nil}
 use lib.Dec.{leb, ltb, eqb}
 use lib.ListN.{length, get_or, drop}
 use borrow.Author.Tests.{lt-ltb, le-ltb, ltb-true, ltb-false, leb-true, eqb-false, ne_eqb, not-true}
-use Rattle.text.specs.declared.Number.{Number}
-use Rattle.text.specs.Numbers.{is_digit, run, value_of, well_formed, number_from, number_of, decimal, digits}
-use Rattle.text.proofs.Steps.{digit-here, run-stop}
-use Rattle.text.proofs.Fields.{by_cond, both_left, both_right}
+use Rattle.text.specs.Numbers.{Number, is_digit, run, value_of, well_formed, number_from, number_of, decimal, digits}
+use Rattle.text.proofs.Steps.{both_left, digit-here, digit-most, run-stop}
+use Rattle.text.proofs.Fields.{by_cond}
 
 digit_low : (b : ℕ) → is_digit b ≡ true → 48 ≤ b
 unfolding is_digit
 digit_low b e = leb-true 48 b (both_left (leb 48 b) (leb b 57) e)
-
-digit-high : (b : ℕ) → is_digit b ≡ true → b ≤ 57
-unfolding is_digit
-digit-high b e = leb-true b 57 (both_right (leb 48 b) (leb b 57) e)
 
 -- every byte of the list is a digit
 abbrev Digital : List ℕ → Type 0
@@ -144,7 +139,7 @@ unfolding value_of
 decimal-back k v [] acc s h = rw add-zero refl
 decimal-back k v (d ∷ ds) acc s h =
     let low : 48 ≤ d = digit_low d h.0 in
-    let high : d ≤ 57 = digit-high d h.0 in
+    let high : d ≤ 57 = digit-most d h.0 in
     let w : ℕ = 10 * v + (d - 48) in
     let a : w / 10 ≡ v = omega arith in
     let c : 48 + w % 10 ≡ d = omega arith in
@@ -159,11 +154,11 @@ unfolding digits value_of well_formed
 digits-back [] h s e = absurd (true≢false (sym e))
 digits-back (b ∷ []) h s e =
     let low : 48 ≤ b = digit_low b h.0 in
-    let high : b ≤ 57 = digit-high b h.0 in
+    let high : b ≤ 57 = digit-most b h.0 in
     decimal-one 8 (10 * 0 + (b - 48)) [] (omega arith) ∙ ap (λ (n : ℕ). n ∷ []) (omega arith)
 digits-back (b ∷ c ∷ ds) h s e =
     let low : 48 ≤ b = digit_low b h.0 in
-    let high : b ≤ 57 = digit-high b h.0 in
+    let high : b ≤ 57 = digit-most b h.0 in
     let v : ℕ = 10 * 0 + (b - 48) in
     let k : ℕ = 7 - length ds in
     let nine : 9 ≡ suc k + length (c ∷ ds) = omega arith in

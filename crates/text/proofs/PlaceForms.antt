@@ -14,10 +14,9 @@ use lib.Dec.{eqb}
 use lib.ListN.{length, drop}
 use lib.Seq.{drop-append_seam}
 use borrow.Author.Tests.{eqb-true, eqb-false}
-use Rattle.text.specs.declared.Number.{Number}
-use Rattle.text.specs.declared.Form.{Form}
+use Rattle.text.specs.Numbers.{Number}
 use Rattle.text.specs.Lines.{plant_line, devices_key, lines_key, end_line, newline, begins, field_text, row_text}
-use Rattle.text.specs.Form.{rows_text, plant_text, good_rows, used_rows, end_fault_of, rows_fault_of, form_lines, form_devices, form}
+use Rattle.text.specs.Form.{Form, rows_text, plant_text, good_rows, used_rows, end_fault_of, rows_fault_of, form_lines, form_devices, form}
 use Rattle.text.specs.Place.{text_lines, first_lines, Small, RightForm, Expected}
 use Rattle.text.proofs.Fields.{by_cond}
 use Rattle.text.proofs.LineLaws.{begins-self, begins-split, no-newline, field-reads, row_reads}

@@ -15,9 +15,9 @@ use mathlib.Core.List.{List}
 use lib.Dec.{eqb}
 use lib.ListN.{length}
 use borrow.Author.Tests.{eqb-false, not-true}
-use Rattle.rules.specs.declared.Refusal.{Refusal}
+use Rattle.rules.specs.Refusal.{Refusal}
 use Rattle.rules.specs.Refusals.{done, cause, or_else, first_of, devices_fault, lists_fault, line_fault, lines_from, lines_fault}
-use Rattle.text.specs.declared.Reading.{Reading}
+use Rattle.text.specs.Reading.{Reading}
 use Rattle.text.specs.Form.{form}
 use Rattle.text.specs.Lines.{end_line}
 use Rattle.text.specs.Reading.{long_fault, form_fault_of, rooms_fault, read_fault, read_answer, ReadIs, size_fault_of, head_fault_of}

@@ -11,11 +11,9 @@ use mathlib.Core.Bool.{Bool, true, false, cond}
 use mathlib.Core.List.{List, [], ◌++◌, append_assoc, append-nil}
 use lib.ListN.{length, drop}
 use lib.Seq.{drop-drop}
-use Rattle.text.specs.declared.Row.{Row}
-use Rattle.text.specs.declared.Number.{Number}
-use Rattle.text.specs.declared.Form.{Form}
-use Rattle.text.specs.Lines.{plant_line, devices_key, lines_key, line_key, end_line, newline, comma, begins, field_text, field, row_text, row_of, row_second, row_first, row}
-use Rattle.text.specs.Form.{rows_text, plant_text, good_rows, used_rows, column, form_lines, form_devices, form}
+use Rattle.text.specs.Numbers.{Number}
+use Rattle.text.specs.Lines.{Row, plant_line, devices_key, lines_key, line_key, end_line, newline, comma, begins, field_text, field, row_text, row_of, row_second, row_first, row}
+use Rattle.text.specs.Form.{Form, rows_text, plant_text, good_rows, used_rows, column, form_lines, form_devices, form}
 use Rattle.text.specs.Reading.{values_of}
 use Rattle.text.specs.Place.{text_lines, first_lines, Small, RightForm, Expected}
 use Rattle.text.proofs.Fields.{by_cond, field-small}

@@ -47,7 +47,7 @@ digit-placed d k x h =
     ∙ rw (get_or-set_same d k x 0 h, drop-set-lt (suc k) d k x (omega arith), add-one) refl
 
 module _ {d : List ℕ} {v rest at : ℕ} (i : Digits d v rest at) where
-  pub digits-none : at ≤ 0 → drop at d ≡ digits v
+  pub digits-none : at ≤ 0 → drop 0 d ≡ digits v
   unfolding decimal
   digits-none h = let z : at ≡ 0 = omega arith in sym (i.left ∙ rw z refl)
 

@@ -14,7 +14,7 @@ use mathlib.Core.List.{List, [], ◌∷◌, ◌++◌}
 use lib.Dec.{ltb, eqb}
 use lib.ListN.{length, get_or}
 use borrow.Author.Tests.{eqb-true, ltb-false}
-use Rattle.rules.specs.declared.Refusal.{Refusal}
+use Rattle.rules.specs.Refusal.{Refusal}
 use Rattle.rules.specs.Plant.{Plant}
 use Rattle.rules.specs.Accepted.{Sound}
 use Rattle.rules.specs.Groups.{label, groups, distinct}
@@ -24,8 +24,7 @@ use Rattle.rules.proofs.LabelLaws.{groups-at}
 use Rattle.rules.proofs.DistinctLaws.{owns, groups-distinct}
 use Rattle.rules.proofs.Instance.{family}
 use Rattle.rules.proofs.HierarchyLaws.{each-occurs}
-use Rattle.text.specs.declared.Number.{Number}
-use Rattle.text.specs.Numbers.{is_digit, number_of, digits}
+use Rattle.text.specs.Numbers.{Number, is_digit, number_of, digits}
 use Rattle.text.specs.Lines.{newline}
 use Rattle.text.specs.Form.{form}
 use Rattle.text.specs.Place.{text_lines}

@@ -3,23 +3,23 @@
 --     text-..             the text that is read, refused or not
 --     list-.., list_count the list that is filled, or too short
 -- Assumes nothing.
-use Prim.Native.Nat.{ℕ, ◌+◌, ◌*◌, ◌≤◌, ◌<◌}
+use Prim.Native.Nat.{ℕ, ◌*◌, ◌≤◌, ◌<◌}
 use native.Mathlib.Nat.{zero-add, mul-le-mul}
 use native.Mathlib.Omega.{arith}
 use mathlib.Core.Path.{◌≡◌, refl, sym, ap, ◌∙◌}
-use mathlib.Core.List.{List}
+use mathlib.Core.List.{List, ◌++◌}
 use lib.ListN.{length, get_or, take, drop}
 use borrow.Author.Tests.{lt-ltb, le-ltb}
-use Rattle.rules.specs.declared.Refusal.{Refusal}
+use Rattle.rules.specs.Refusal.{Refusal}
 use Rattle.rules.specs.Plant.{plant_of}
 use Rattle.rules.specs.Refusals.{done, cause, or_else, first_of, room_fault, after_plant, about, nothing, plant_says}
 use Rattle.rules.specs.Accepted.{Accepted}
 use Rattle.rules.specs.Lists.{over}
 use Rattle.rules.proofs.RefusalLaws.{done_next, call-is, call-rest, accepted-done, done-accepted}
-use Rattle.grouping.specs.declared.hierarchy.Levels.{Levels}
+use Rattle.grouping.specs.Calls.{Levels}
 use Rattle.grouping.specs.Calls.{row_of, hierarchy_fault, Listed, HierarchyIs}
-use Rattle.text.specs.declared.Row.{Row}
-use Rattle.text.specs.declared.Reading.{Reading}
+use Rattle.text.specs.Lines.{Row}
+use Rattle.text.specs.Reading.{Reading}
 use Rattle.text.specs.Form.{form}
 use Rattle.text.specs.Reading.{values_of, firsts_of, seconds_of, signals_of, read_fault, read_answer, read_list, ReadIs}
 use Rattle.text.specs.Listing.{listing, refused_text}
@@ -51,6 +51,10 @@ module _ (n : ℕ) (xs ys zs : List ℕ) (a : Accepted n xs ys zs) where
     plant-filled : Listed (plant_of n xs ys zs) r.levels labels low_ps low_qs labels' low_ps' low_qs'
     unfolding done
     plant-filled = (h.filled (ap (λ (x : Refusal). x.number) (not-refused (length labels) (length low_ps) (length low_qs) hi hj hk))).2
+
+    pub plant-listed : r.number ≡ 0
+    unfolding done
+    plant-listed = (h.filled (ap (λ (x : Refusal). x.number) (not-refused (length labels) (length low_ps) (length low_qs) hi hj hk))).0
 
     few : r.levels ≤ n
     unfolding plant_of
@@ -109,11 +113,11 @@ module _ {t xs ys zs us vs ws : List ℕ} {r : Reading} (hx : length xs ≡ 1024
   place_is = rw (fault-is, i.answer) refl
 
   pub text-refused : {old new : List ℕ} {k : ℕ} → (r.number ≡ 0 → ⊥)
-      → (k ≡ 0 + length (refused_text r.number r.place)) × (new ≡ placed old 0 (refused_text r.number r.place)) → ShownText t old k new
+      → (k ≡ length (refused_text r.number r.place)) × (new ≡ placed old 0 (refused_text r.number r.place)) → ShownText t old k new
   text-refused {old} h p = record {
     bytes = refused_text r.number r.place;
     printed = record { listed = λ z. absurd (h (sym number_is ∙ z)); refused = λ o. rw (number_is, place_is) refl };
-    count = p.0 ∙ zero-add _;
+    count = p.0;
     front = p.1 ∙ front-is old (refused_text r.number r.place);
   }
 
@@ -184,13 +188,13 @@ module _ {t space new : List ℕ} {k : ℕ} (s : ShownText t space k new) where
       let short : length old < length s.bytes = omega (arith, s.count) in
       record { bytes = s.bytes; printed = s.printed; answer = rw (lt-ltb (length old) (length s.bytes) short) refl; filled = rw (lt-ltb (length old) (length s.bytes) short) refl }
 
-  pub list-filled : {old last : List ℕ} → k ≤ length old → last ≡ placed old 0 (take k new) → ListIs t old (record { number = 0; place = 0; count = k }) last
-  unfolding list_answer room_fault cause done
+  pub list-filled : {old last : List ℕ} → k ≤ length old → last ≡ take k new ++ drop k old → ListIs t old (record { number = 0; place = 0; count = k }) last
+  unfolding list_answer room_fault cause done over
   list-filled {old} l e =
       let room : length s.bytes ≤ length old = omega (arith, s.count) in
       record {
         bytes = s.bytes;
         printed = s.printed;
         answer = rw (le-ltb (length old) (length s.bytes) room, s.count) refl;
-        filled = e ∙ rw (list-front, le-ltb (length old) (length s.bytes) room) (front-is old s.bytes);
+        filled = e ∙ rw (list-front, le-ltb (length old) (length s.bytes) room, s.count) refl;
       }

@@ -16,14 +16,18 @@ use lib.Dec.{ltb}
 use lib.ListN.{length, take, drop}
 use lib.Seq.{take_at, take_all, length-take-le}
 use borrow.Author.Tests.{ltb-true, lt-ltb, le-ltb}
-use Rattle.rules.specs.declared.Refusal.{Refusal}
+use Rattle.rules.specs.Refusal.{Refusal}
 use Rattle.rules.specs.Plant.{Plant, plant_of}
 use Rattle.rules.specs.Refusals.{done, cause, or_else, room_fault}
 use Rattle.rules.specs.Lists.{over}
 use Rattle.rules.proofs.RefusalLaws.{done-accepted}
 use Rattle.rules.proofs.OrderLaws.{le-or-below}
 use Rattle.rules.proofs.HierarchyLaws.{SameHierarchy, hierarchy-determined}
-use Rattle.text.specs.declared.Written.{Written}
+use Rattle.std.specs.Prelude.{Result, Ok, Err}
+use Rattle.std.specs.Result.{result_unwrap_or}
+use Rattle.rules.specs.declared.Fault.{Fault}
+use Rattle.text.proofs.Laws.{written-same}
+use Rattle.text.specs.Writing.{Written, written_told}
 use Rattle.text.specs.Reading.{long_fault}
 use Rattle.text.specs.Listing.{pieces, low_text, level_text, levels_text, listing}
 use Rattle.text.specs.Shown.{text_fault, stated_plant, ListingOf, Printed, list_answer, ListIs}
@@ -82,6 +86,15 @@ pub list-determined : {t old : List ℕ} {r r' : Written} {new new' : List ℕ} 
 list-determined {old = old} x y =
     let e : x.bytes ≡ y.bytes = printed-one x.printed y.printed in
     (x.answer ∙ ap (λ (b : List ℕ). list_answer b (length old)) e ∙ sym y.answer, x.filled ∙ rw e (sym y.filled))
+
+-- the same of the answers themselves, which are enums
+pub list-result-determined : {t old : List ℕ} {r r' : Result ℕ Fault} {new new' : List ℕ} → ListIs t old (written_told r) new → ListIs t old (written_told r') new' → r ≡ r'
+list-result-determined {r = r} {r' = r'} x y = written-same r r' (list-determined x y).0
+
+-- the number of bytes, 0 after a refusal
+pub told-count : (r : Result ℕ Fault) → result_unwrap_or r 0 ≡ (written_told r).count
+told-count (Ok k) = refl
+told-count (Err f) = refl
 
 -- the front of a list that was filled
 pub over-take : (w old : List ℕ) (k : ℕ) → length w ≡ k → take k (over w old) ≡ w

@@ -10,16 +10,13 @@ use lib.Dec.{eqb}
 use lib.ListN.{length, drop, length-append}
 use lib.Seq.{drop-drop, drop-append_seam}
 use borrow.Author.Tests.{eq-eqb, eqb-true}
-use Rattle.text.specs.declared.Number.{Number}
-use Rattle.text.specs.declared.Row.{Row}
-use Rattle.text.specs.declared.Form.{Form}
-use Rattle.text.specs.Lines.{plant_line, devices_key, lines_key, end_line, newline, begins, field_text, field, row_text, row}
-use Rattle.text.specs.Form.{rows_text, plant_text, good_rows, used_rows, column, end_fault_of, rows_fault_of, form_lines, form_devices, form}
+use Rattle.text.specs.Numbers.{Number}
+use Rattle.text.specs.Lines.{Row, plant_line, devices_key, lines_key, end_line, newline, begins, field_text, field, row_text, row}
+use Rattle.text.specs.Form.{Form, rows_text, plant_text, good_rows, used_rows, column, end_fault_of, rows_fault_of, form_lines, form_devices, form}
 use Rattle.text.specs.Reading.{values_of, firsts_of, seconds_of, signals_of}
 use Rattle.text.specs.Place.{Small}
 use Rattle.text.proofs.Steps.{past}
 use Rattle.text.proofs.Fields.{by_cond}
-use Rattle.text.proofs.Forms.{form-good}
 use Rattle.text.proofs.Lists.{column-length}
 use Rattle.text.proofs.LineLaws.{begins-self, begins-split, no-newline, field-reads, field-written, row_reads, row_written}
 
@@ -203,11 +200,16 @@ module _ (n m : ℕ) (rest : List ℕ) (hn : n < 1000000000) (hm : m < 100000000
   after-lines = sym (drop-drop (length g) (8 + length f) t) ∙ rw after-devices (drop-append_seam g rest)
 
   pub form-is : record { line = rows_fault_of m rest; devices = n; lines = m; at = 8 + length f + length g } ≡ form t
+  unfolding form form_devices form_lines
   form-is =
-      form-good t {g = true} (sym (begins-self plant_line (f ++ (g ++ rest)))) refl
-      {n = record { ok = true; value = n; used = length f }} (sym (field-reads devices_key 10 n (g ++ rest) no-newline hn)) refl
-      {m = record { ok = true; value = m; used = length g }} (rw after-devices (sym (field-reads lines_key 10 m rest no-newline hm)))
-      {line = rows_fault_of m rest} refl (rw after-lines refl)
+      rw (
+        begins-self plant_line (f ++ (g ++ rest)),
+        field-reads devices_key 10 n (g ++ rest) no-newline hn,
+        after-devices,
+        field-reads lines_key 10 m rest no-newline hm,
+        after-lines,
+      )
+      refl
 
 module _ (n : ℕ) (xs ys zs : List ℕ) (hn : n < 1000000000) (hm : length xs < 1000000000) (r : RowsRead xs ys zs end_line) where
   abbrev rows : List ℕ

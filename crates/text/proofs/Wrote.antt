@@ -3,8 +3,8 @@
 --     Rows        what a loop over lines has written: the rows before those that are left
 --     Sum         what a loop over lines has counted: the bytes before those that are left
 -- Assumes nothing.
-use Prim.Native.Nat.{ℕ, ◌+◌, ◌*◌, ◌-◌, ◌≤◌, ◌<◌, zero-le}
-use native.Mathlib.Nat.{add-zero, zero-add}
+use Prim.Native.Nat.{ℕ, ◌+◌, ◌*◌, ◌-◌, ◌≤◌, ◌<◌}
+use native.Mathlib.Nat.{add-zero}
 use native.Mathlib.Omega.{arith}
 use mathlib.Core.Path.{◌≡◌, refl, sym, ap, subst, ◌∙◌}
 use mathlib.Core.List.{List, [], ◌++◌, append_assoc, append-nil}
@@ -13,16 +13,14 @@ use lib.Seq.{take_all}
 use Rattle.text.specs.Numbers.{digits}
 use Rattle.text.specs.Lines.{field_text, row_text, line_key, comma, newline}
 use Rattle.text.specs.Form.{rows_text}
+use Rattle.text.specs.declared.write.Writer.{Writer}
 use Rattle.text.specs.Writing.{placed}
+use Rattle.text.specs.Writer.{HasRoom, Writes}
 use Rattle.text.proofs.Steps.{here, past}
 use Rattle.text.proofs.Placed.{placed-then, placed-length}
 
 abbrev pub Wrote : List ℕ → ℕ → List ℕ → ℕ → List ℕ → Type 0
 Wrote old at w to new = (to ≡ at + length w) × (new ≡ placed old at w)
-
--- the same word, by another name
-pub wrote_as : (old : List ℕ) (at to : ℕ) (new : List ℕ) {v w : List ℕ} → v ≡ w → Wrote old at v to new → Wrote old at w to new
-wrote_as old at to new e = subst (λ (u : List ℕ). Wrote old at u to new) e
 
 -- nothing is written yet
 pub wrote_none : (old : List ℕ) (at : ℕ) → at ≤ length old → Wrote old at [] at old
@@ -46,6 +44,31 @@ module _ (old : List ℕ) (at : ℕ) (v w : List ℕ) (room : at + length (v ++ 
         ∙ placed-then old at v w whole,
   )
 
+-- the same word, by another name
+pub writes_as : {old new : Writer} {v w : List ℕ} → v ≡ w → Writes old v new → Writes old w new
+writes_as {old} {new} e = subst (λ (u : List ℕ). Writes old u new) e
+
+pub writes_none : (old : Writer) → old.at ≤ length old.bytes.now → Writes old [] old
+writes_none old h = let n : Wrote old.bytes.now old.at [] old.at old.bytes.now = wrote_none old.bytes.now old.at h in record { at = n.0; bytes = n.1; same_list = refl }
+
+-- two words one after the other
+module _ {old mid : Writer} {v : List ℕ} (a : Writes old v mid) (w : List ℕ) (room : HasRoom old (v ++ w)) where
+  pub writes-room : HasRoom mid w
+  writes-room = wrote-room old.bytes.now old.at v w room (a.at, a.bytes)
+
+  pub writes_then : {new : Writer} → Writes mid w new → Writes old (v ++ w) new
+  writes_then {new} b =
+      let both : Wrote old.bytes.now old.at (v ++ w) new.at new.bytes.now = wrote_then old.bytes.now old.at v w room (a.at, a.bytes) new.at new.bytes.now (b.at, b.bytes) in
+      record { at = both.0; bytes = both.1; same_list = b.same_list ∙ a.same_list }
+
+-- the list that a writer was made of, at its front, after the word w: γ is the list's name, and last what it holds in the end
+pub wrote-front : {old new : Writer} {w : List ℕ} → Writes old w new → {γ : ℕ} {bytes : List ℕ} → (old.bytes.ghost_name ≡ γ) × (old.bytes.now ≡ bytes) × (old.at ≡ 0)
+    → (last : List ℕ) → (γ ≡ new.bytes.ghost_name → last ≡ new.bytes.now) → last ≡ placed bytes 0 w
+wrote-front a n last e = e (sym (a.same_list ∙ n.0)) ∙ a.bytes ∙ rw (n.1, n.2) refl
+
+pub front-room : (old : Writer) {bytes : List ℕ} (w : List ℕ) → old.bytes.now ≡ bytes → old.at ≡ 0 → length w ≤ length bytes → HasRoom old w
+front-room old w b a h = rw (a, b) (omega arith)
+
 -- the digits that stand from `start` to the end of an array of nine
 pub digits-part : (d : List ℕ) (start v : ℕ) → (start ≤ 9) × (length d ≡ 9) × (drop start d ≡ digits v) → take (9 - start) (drop start d) ≡ digits v
 digits-part d start v h = take_all (9 - start) (drop start d) (omega (arith, length-drop start d, h.1)) ∙ h.2
@@ -64,54 +87,36 @@ pub rows-past : (xs ys zs : List ℕ) (i : ℕ) → length xs ≤ i → rows_tex
 unfolding rows_text
 rows-past xs ys zs i h = rw (past xs i) refl
 
-pub record Rows (old : List ℕ) (at : ℕ) (xs ys zs : List ℕ) (new : List ℕ) (to i : ℕ) : Type 0 where
-  pub most : i ≤ length xs
+pub record Rows (old : Writer) (xs ys zs : List ℕ) (now : Writer) (i : ℕ) : Type 0 where
   pub text : List ℕ
   pub all : text ++ rows_text (drop i xs) (drop i ys) (drop i zs) ≡ rows_text xs ys zs
-  pub wrote : Wrote old at text to new
-  pub long : length new ≡ length old
+  pub wrote : Writes old text now
 
-module _ (old : List ℕ) (at : ℕ) (xs ys zs : List ℕ) where
-  pub rows_start : at ≤ length old → Rows old at xs ys zs old at 0
-  rows_start h = record { most = zero-le; text = []; all = refl; wrote = wrote_none old at h; long = refl }
+module _ {old : Writer} {xs ys zs : List ℕ} (p : length xs ≡ length ys) (q : length ys ≡ length zs) (room : HasRoom old (rows_text xs ys zs))
+    {now : Writer} {i : ℕ} (r : Rows old xs ys zs now i) where
+  pub rows_all : length xs ≤ i → Writes old (rows_text xs ys zs) now
+  rows_all h = writes_as (sym (append-nil r.text) ∙ ap (λ (l : List ℕ). r.text ++ l) (sym (rows-past xs ys zs i h)) ∙ r.all) r.wrote
 
-  module _ (p : length xs ≡ length ys) (q : length ys ≡ length zs) (room : at + length (rows_text xs ys zs) ≤ length old)
-      {new : List ℕ} {to i : ℕ} (r : Rows old at xs ys zs new to i) where
-    pub rows_all : length xs ≤ i → Wrote old at (rows_text xs ys zs) to new
-    rows_all h = wrote_as old at to new (sym (append-nil r.text) ∙ ap (λ (l : List ℕ). r.text ++ l) (sym (rows-past xs ys zs i h)) ∙ r.all) r.wrote
+  module _ (less : i < length xs) where
+    abbrev next : List ℕ
+    next = row_text (get_or xs i 0) (get_or ys i 0) (get_or zs i 0)
 
-    module _ (less : i < length xs) where
-      abbrev next : List ℕ
-      next = row_text (get_or xs i 0) (get_or ys i 0) (get_or zs i 0)
+    rest : r.text ++ next ++ rows_text (drop (i + 1) xs) (drop (i + 1) ys) (drop (i + 1) zs) ≡ rows_text xs ys zs
+    rest = append_assoc r.text next _ ∙ ap (λ (l : List ℕ). r.text ++ l) (sym (rows-here xs ys zs i p q less)) ∙ r.all
 
-      rest : r.text ++ next ++ rows_text (drop (i + 1) xs) (drop (i + 1) ys) (drop (i + 1) zs) ≡ rows_text xs ys zs
-      rest = append_assoc r.text next _ ∙ ap (λ (l : List ℕ). r.text ++ l) (sym (rows-here xs ys zs i p q less)) ∙ r.all
+    fits : HasRoom old (r.text ++ next)
+    fits = omega (arith, room, ap length (sym rest), length-append (r.text ++ next) (rows_text (drop (i + 1) xs) (drop (i + 1) ys) (drop (i + 1) zs)))
 
-      fits : at + length (r.text ++ next) ≤ length old
-      fits = omega (arith, room, ap length (sym rest), length-append (r.text ++ next) (rows_text (drop (i + 1) xs) (drop (i + 1) ys) (drop (i + 1) zs)))
+    pub rows-room : HasRoom now (row_text (get_or xs i 0) (get_or ys i 0) (get_or zs i 0))
+    rows-room = writes-room r.wrote next fits
 
-      pub rows-room : to + length (row_text (get_or xs i 0) (get_or ys i 0) (get_or zs i 0)) ≤ length new
-      rows-room = wrote-room old at r.text next fits r.wrote
-
-      pub rows_more : (end : ℕ) (last : List ℕ) → Wrote new to (row_text (get_or xs i 0) (get_or ys i 0) (get_or zs i 0)) end last
-          → Rows old at xs ys zs last end (i + 1)
-      rows_more end last w =
-          let wrote : Wrote old at (r.text ++ next) end last = wrote_then old at r.text next fits r.wrote end last w in
-          record {
-            most = omega arith;
-            text = r.text ++ next;
-            all = rest;
-            wrote = wrote;
-            long = ap length wrote.1 ∙ placed-length old at (r.text ++ next) fits;
-          }
+    pub rows_more : {last : Writer} → Writes now (row_text (get_or xs i 0) (get_or ys i 0) (get_or zs i 0)) last → Rows old xs ys zs last (i + 1)
+    rows_more w = record { text = r.text ++ next; all = rest; wrote = writes_then r.wrote next fits w }
 
 pub record Sum (xs ys zs : List ℕ) (sum i : ℕ) : Type 0 where
   pub most : i ≤ length xs
   pub all : sum + length (rows_text (drop i xs) (drop i ys) (drop i zs)) ≡ length (rows_text xs ys zs)
   pub small : sum ≤ 35 * i
-
-pub sum-start : (xs ys zs : List ℕ) → Sum xs ys zs 0 0
-sum-start xs ys zs = record { most = zero-le; all = zero-add _; small = zero-le }
 
 module _ (xs ys zs : List ℕ) (p : length xs ≡ length ys) (q : length ys ≡ length zs) {sum i : ℕ} (s : Sum xs ys zs sum i) where
   pub sum-all : length xs ≤ i → sum ≡ length (rows_text xs ys zs)
@@ -141,7 +146,3 @@ unfolding row_text
 row-length a b s =
     length-append (field_text line_key comma a ++ field_text [] comma b) (field_text [] newline s)
     ∙ rw (length-append (field_text line_key comma a) (field_text [] comma b), field-length, field-length, field-length) (omega arith)
-
--- room for two words is room for the first
-pub room-left : (at : ℕ) (v w : List ℕ) {n : ℕ} → at + length (v ++ w) ≤ n → at + length v ≤ n
-room-left at v w h = omega (arith, length-append v w)

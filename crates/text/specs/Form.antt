@@ -1,13 +1,16 @@
 -- Document 01, "Plant text and listing", on the form of a whole text: "plant=1, devices, lines, then one line= row for each stated line
 -- (first end, second end, signals), then end=plant and nothing more."
 -- Assumes nothing.
-use Rattle.std.specs.Prelude.{ℕ, zero, suc, ◌+◌, ◌≡◌, cond, List, [], ◌∷◌, ◌++◌, eqb, length, drop}
-use Rattle.rules.specs.Lists.{over}
-use Rattle.text.specs.declared.Number.{Number}
-use Rattle.text.specs.declared.Row.{Row}
-use Rattle.text.specs.declared.Passed.{Passed}
-use Rattle.text.specs.declared.Form.{Form}
-use Rattle.text.specs.Lines.{plant_line, devices_key, lines_key, end_line, newline, begins, field, field_text, row, row_text}
+use Rattle.std.specs.Prelude.{ℕ, zero, suc, ◌+◌, cond, List, [], ◌∷◌, ◌++◌, eqb, length, drop}
+use Rattle.text.specs.Numbers.{Number}
+use Rattle.text.specs.Lines.{Row, plant_line, devices_key, lines_key, end_line, newline, begins, field, field_text, row, row_text}
+
+-- the form of a text: the text line that is not as expected, or 0; the stated numbers; how many bytes come before the rows
+pub record Form : Type 0 where
+  pub line : ℕ
+  pub devices : ℕ
+  pub lines : ℕ
+  pub at : ℕ
 
 -- the rows of the lines that three lists state
 unfoldable pub rows_text : List ℕ → List ℕ → List ℕ → List ℕ
@@ -31,21 +34,10 @@ unfoldable pub used_rows : ℕ → List ℕ → ℕ
 used_rows zero l = 0
 used_rows (suc m) l = cond (row l).ok ((row l).used + used_rows m (drop (row l).used l)) 0
 
--- both of them
-abbrev pub passed : ℕ → List ℕ → Passed
-passed m l = record { rows = good_rows m l; used = used_rows m l }
-
 -- one number of each of the m rows from here
 unfoldable pub column : (Row → ℕ) → ℕ → List ℕ → List ℕ
 column f zero l = []
 column f (suc m) l = f (row l) ∷ column f m (drop (row l).used l)
-
--- the lists a', b' and s' begin with the numbers of the m rows from here, and are else as a, b and s were
-abbrev pub RowsAre : ℕ → List ℕ → List ℕ → List ℕ → List ℕ → List ℕ → List ℕ → List ℕ → Type 0
-RowsAre m l a b s a' b' s' =
-    (a' ≡ over (column (λ w. w.first) m l) a)
-    × (b' ≡ over (column (λ w. w.second) m l) b)
-    × (s' ≡ over (column (λ w. w.signals) m l) s)
 
 -- "then end=plant and nothing more": the text line that is not as expected, k being the number of the one that should be end=plant, or 0
 unfoldable pub end_fault_of : List ℕ → ℕ → ℕ

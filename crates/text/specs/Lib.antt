@@ -5,6 +5,9 @@
 --     Listing     what is printed of a hierarchy, and after a refusal
 --     Reading     what reading a text answers and fills
 --     Writing     what writing a plant answers and fills
+--     Told        what the reader answers
+--     Levels      what is printed of the levels that lists hold
+--     Writer      a list of bytes and a place in it, where words are written
 --     Shown       what the hierarchy program prints of a text, whole
 --     Place       the place of 15, said once more without the reader's steps
 pub mod Numbers
@@ -13,5 +16,8 @@ pub mod Form
 pub mod Listing
 pub mod Reading
 pub mod Writing
+pub mod Told
+pub mod Writer
+pub mod Levels
 pub mod Shown
 pub mod Place

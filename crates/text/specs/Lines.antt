@@ -1,9 +1,15 @@
 -- Document 01, "Plant text and listing", on text lines: what should come, and the bytes from here.
 -- Assumes nothing.
 use Rattle.std.specs.Prelude.{ℕ, ◌+◌, Bool, true, false, ◌&&◌, cond, List, [], ◌∷◌, ◌++◌, eqb, length, drop}
-use Rattle.text.specs.declared.Number.{Number}
-use Rattle.text.specs.declared.Row.{Row}
-use Rattle.text.specs.Numbers.{number_of, no_number, digits}
+use Rattle.text.specs.Numbers.{Number, number_of, no_number, digits}
+
+-- what stands at a place, where a row should: whether it is one, its numbers, and how many bytes it takes
+pub record Row : Type 0 where
+  pub ok : Bool
+  pub first : ℕ
+  pub second : ℕ
+  pub signals : ℕ
+  pub used : ℕ
 
 -- plant=1 and a newline
 abbrev pub plant_line : List ℕ

@@ -1,7 +1,12 @@
 -- Document 01, "Plant text and listing", on numbers: "A number has 1 to 9 digits and no leading zero, except 0 itself."
 -- Assumes nothing.
 use Rattle.std.specs.Prelude.{ℕ, zero, suc, ◌+◌, ◌*◌, ◌-◌, ◌/◌, ◌%◌, Bool, true, false, not, ◌&&◌, cond, List, [], ◌∷◌, leb, ltb, eqb, length}
-use Rattle.text.specs.declared.Number.{Number}
+
+-- what stands at a place, where a number should: whether it is one, its value, and how many bytes it takes
+pub record Number : Type 0 where
+  pub ok : Bool
+  pub value : ℕ
+  pub used : ℕ
 
 -- whether a byte is one of the ten digits
 unfoldable pub is_digit : ℕ → Bool

@@ -1,13 +1,14 @@
 -- What reading a text answers and fills: document 01, "Plant text and listing", "What a call fills", "Refusal numbers".
 -- Assumes nothing.
-use Rattle.std.specs.Prelude.{ℕ, ◌≡◌, Bool, not, ◌||◌, cond, List, [], ◌∷◌, ltb, eqb, length, drop}
-use Rattle.rules.specs.declared.Refusal.{Refusal}
+use Rattle.std.specs.Prelude.{ℕ, ◌≡◌, Bool, not, ◌||◌, cond, List, [], ◌∷◌, ltb, eqb, length, drop, Result, Ok, Err}
+use Rattle.rules.specs.Refusal.{Refusal}
 use Rattle.rules.specs.Refusals.{cause, or_else, first_of, devices_fault, lists_fault, lines_fault, of_text, of_devices, of_lists, of_lines, of_room, in_order, nothing, about}
 use Rattle.rules.specs.Lists.{after}
-use Rattle.text.specs.declared.Row.{Row}
-use Rattle.text.specs.declared.Form.{Form}
-use Rattle.text.specs.declared.Reading.{Reading}
-use Rattle.text.specs.Form.{form, column}
+use Rattle.text.specs.Lines.{Row}
+use Rattle.rules.specs.Faults.{refusal_of}
+use Rattle.rules.specs.declared.Fault.{Fault}
+use Rattle.text.specs.declared.Size.{Size}
+use Rattle.text.specs.Form.{Form, form, column}
 
 -- "14: text over 32,768 bytes"
 unfoldable pub long_fault : ℕ → Refusal
@@ -47,6 +48,18 @@ read_fault t a b c =
     (about of_devices (devices_fault (form t).devices)
     (about of_lists (lists_fault (form t).lines (form t).lines (form t).lines)
     (about of_lines (lines_fault (form t).devices (firsts_of t) (seconds_of t) (signals_of t)) (about of_room (rooms_fault (form t).lines a b c) nothing)))))
+
+-- the answer of reading: number and place, and how many devices and lines the text states
+pub record Reading : Type 0 where
+  pub number : ℕ
+  pub place : ℕ
+  pub devices : ℕ
+  pub lines : ℕ
+
+-- "For every answer that is an enum, a definition gives this paper's number and values for each case of the enum."
+abbrev pub read_told : Result Size Fault → Reading
+read_told (Ok s) = record { number = 0; place = 0; devices = s.devices; lines = s.lines }
+read_told (Err f) = record { number = (refusal_of f).number; place = (refusal_of f).place; devices = 0; lines = 0 }
 
 -- "answers n and the number of lines"; "every further answer is then absent or 0"
 unfoldable pub read_answer : Refusal → List ℕ → Reading

@@ -1,12 +1,12 @@
 -- What the hierarchy program prints of a text, whole: document 01, "Plant text and listing".
 -- Assumes nothing.
 use Rattle.std.specs.Prelude.{ℕ, suc, ◌≤◌, ◌<◌, ◌≡◌, cond, List, eqb, length}
-use Rattle.rules.specs.declared.Refusal.{Refusal}
+use Rattle.rules.specs.Refusal.{Refusal}
 use Rattle.rules.specs.Plant.{Plant, plant_of}
 use Rattle.rules.specs.Hierarchy.{IsHierarchy}
 use Rattle.rules.specs.Refusals.{room_fault}
 use Rattle.rules.specs.Lists.{over, after}
-use Rattle.text.specs.declared.Written.{Written}
+use Rattle.text.specs.Writing.{Written}
 use Rattle.text.specs.Form.{form}
 use Rattle.text.specs.Reading.{firsts_of, seconds_of, signals_of, read_fault}
 use Rattle.text.specs.Listing.{listing, refused_text}

@@ -1,12 +1,24 @@
 -- What writing a plant answers and fills: document 01, "Plant text and listing": "Writing needs room for at least the bytes written, else 12,
 -- and answers their number."
 -- Assumes nothing.
-use Rattle.std.specs.Prelude.{ℕ, ◌+◌, ◌≡◌, cond, List, ◌++◌, eqb, length, take, drop}
-use Rattle.rules.specs.declared.Refusal.{Refusal}
+use Rattle.std.specs.Prelude.{ℕ, ◌+◌, ◌≡◌, cond, List, ◌++◌, eqb, length, take, drop, Result, Ok, Err}
+use Rattle.rules.specs.Refusal.{Refusal}
 use Rattle.rules.specs.Refusals.{room_fault, of_room, in_order, about, plant_says}
 use Rattle.rules.specs.Lists.{after}
-use Rattle.text.specs.declared.Written.{Written}
+use Rattle.rules.specs.Faults.{refusal_of}
+use Rattle.rules.specs.declared.Fault.{Fault}
 use Rattle.text.specs.Form.{plant_text}
+
+-- the answer of writing and of listing: number and place, and how many bytes stand at the front of the list
+pub record Written : Type 0 where
+  pub number : ℕ
+  pub place : ℕ
+  pub count : ℕ
+
+-- "For every answer that is an enum, a definition gives this paper's number and values for each case of the enum."
+abbrev pub written_told : Result ℕ Fault → Written
+written_told (Ok k) = record { number = 0; place = 0; count = k }
+written_told (Err f) = record { number = (refusal_of f).number; place = (refusal_of f).place; count = 0 }
 
 -- the word w in the place of as many bytes of the list old from `at` on
 abbrev pub placed : List ℕ → ℕ → List ℕ → List ℕ

@@ -1,153 +1,79 @@
 // Reading a plant text into three lent lists: the form of the whole text, then its values in the fixed order, then room; the lists are
 // filled last.
 ghost use Rattle.std.specs.Prelude.{◌≡◌, ◌≤◌, length};
-ghost use Rattle.rules.specs.Refusals.{or_else};
+ghost use Rattle.rules.specs.Faults.{told};
 ghost use Rattle.rules.specs.Lists.{over};
-ghost use Rattle.text.specs.Reading.{form_fault_of, size_fault_of, head_fault_of, no_room_of, refused_with, ReadIs};
+ghost use Rattle.text.specs.Reading.{size_fault_of, no_room_of, read_told, ReadIs};
 
-use crate::{Form, Reading, reader};
-use cut::check;
-use rules::{DEVICES, LINES, Refusal};
-
-// The first of two that is a refusal.
-fn earlier(a: Refusal, b: Refusal) -> Refusal
-    ensures { result ≡ or_else a b }
-{
-    if a.number == 0 {
-        return b;
-    }
-    a
-}
-
-// What the form of a text is refused for, by the text line that is not as expected: 15.
-fn form_fault(line: usize) -> Refusal
-    ensures { result ≡ form_fault_of line }
-{
-    if line != 0 {
-        return Refusal {
-            number: 15,
-            place: line,
-        };
-    }
-    Refusal {
-        number: 0,
-        place: 0,
-    }
-}
+use crate::Size;
+use crate::whole::{Stated, form_of, keep_rows};
+use cut::check::check_plant;
+use rules::{Fault, LINES, check_devices};
 
 // What the stated numbers are refused for: 1, 2 and 4.
-fn size_fault(n: usize, m: usize) -> Refusal
-    ensures { result ≡ size_fault_of n m }
+fn check_size(n: usize, m: usize) -> Result<(), Fault>
+    ensures { told result ≡ size_fault_of n m }
 {
-    if n == 0 {
-        return Refusal {
-            number: 1,
-            place: 0,
-        };
-    }
-    if DEVICES < n {
-        return Refusal {
-            number: 2,
-            place: 0,
-        };
-    }
+    check_devices(n)?;
     if LINES < m {
-        return Refusal {
-            number: 4,
-            place: 0,
-        };
+        return Err(Fault::ManyLines);
     }
-    Refusal {
-        number: 0,
-        place: 0,
-    }
+    Ok(())
 }
 
-// What the form and the stated numbers are refused for: the form of the whole text is judged before any value.
-fn head_fault(f: Form) -> Refusal
-    ensures { result ≡ head_fault_of f }
-{
-    let form = form_fault(f.line);
-    let size = size_fault(f.devices, f.lines);
-    earlier(form, size)
-}
-
-// Copies a list to the front of a lent one.
+// Copies a list to the front of a lent one: std's method, with what its law is about as the contract.
 fn fill(list: &mut [usize], from: &[usize])
     requires { length from.now ≤ length list.old }
     ensures { list.new ≡ over from.now list.old }
 {
-    let mut i = 0;
-    while i < from.len() {
-        list[i] = from[i];
-        i += 1;
-    }
+    list[..from.len()].copy_from_slice(from);
 }
 
 // Whether one of three lists, of a, b and c entries, has no room for m lines.
+#[tactic(auto, unfolding(crate::specs::Reading::no_room_of))]
 fn no_room(m: usize, a: usize, b: usize, c: usize) -> bool
     ensures { result ≡ no_room_of m a b c }
 {
-    if a < m {
-        return true;
-    }
-    if b < m {
-        return true;
-    }
-    c < m
+    [a, b, c].iter().any(|room| *room < m)
 }
 
-// The answer to a refusal.
-fn refused(number: usize, place: usize) -> Reading
-    ensures { result ≡ refused_with number place }
-{
-    Reading {
-        number,
-        place,
-        devices: 0,
-        lines: 0,
-    }
-}
-
-// Number and place, the devices and the number of lines of a plant text, whose lines fill the three lists.
+// The devices and the number of lines of a plant text, whose lines fill the three lists, as document 01 lends them.
 pub fn read_plant(
     text: &[u8],
     firsts: &mut [usize],
     seconds: &mut [usize],
     signals: &mut [usize],
-) -> Reading
+) -> Result<Size, Fault>
     ensures { ReadIs text.now firsts.old seconds.old signals.old
-        result firsts.new seconds.new signals.new }
+        (read_told result) firsts.new seconds.new signals.new }
 {
     if 32768 < text.len() {
-        return refused(14, 0);
+        return Err(Fault::LongText);
     }
-    let f = reader::form_of(text);
-    let h = head_fault(f);
-    if h.number != 0 {
-        return refused(h.number, h.place);
-    }
-    let at = f.at;
-    let m = f.lines;
+    // by hand, for with `map_err(Fault::WrongTextLine)?` the proof did not close
+    let stated = match form_of(text) {
+        Ok(stated) => stated,
+        Err(line) => return Err(Fault::WrongTextLine(line)),
+    };
+    check_size(stated.devices, stated.lines)?;
+    let Stated {
+        devices,
+        lines,
+        rows,
+    } = stated;
     let mut a = [0usize; LINES];
     let mut b = [0usize; LINES];
     let mut s = [0usize; LINES];
-    reader::rows_of(text, at, m, &mut a, &mut b, &mut s);
-    let r = check::check_plant(f.devices, &a[..m], &b[..m], &s[..m]);
-    let verdict = r.number;
-    if verdict != 0 {
-        return refused(r.number, r.place);
+    let a = &mut a[..lines];
+    let b = &mut b[..lines];
+    let s = &mut s[..lines];
+    keep_rows(rows, a, b, s);
+    check_plant(devices, a, b, s)?;
+    if no_room(lines, firsts.len(), seconds.len(), signals.len()) {
+        return Err(Fault::ShortList);
     }
-    if no_room(m, firsts.len(), seconds.len(), signals.len()) {
-        return refused(12, 0);
-    }
-    fill(firsts, &a[..m]);
-    fill(seconds, &b[..m]);
-    fill(signals, &s[..m]);
-    Reading {
-        number: 0,
-        place: 0,
-        devices: f.devices,
-        lines: m,
-    }
+    fill(firsts, a);
+    fill(seconds, b);
+    fill(signals, s);
+    Ok(Size { devices, lines })
 }

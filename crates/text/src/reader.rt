@@ -1,80 +1,143 @@
-// The reader keeps the text it was given together with its place in it. Each function over it takes it apart and calls the one on the
-// text and the number; `form_of` and `rows_of`, whose parameters are plain, make it.
-ghost use Rattle.std.specs.Prelude.{◌≡◌, ◌+◌, ◌≤◌, length, drop};
-ghost use Rattle.text.specs.Form.{RowsAre, form};
+// Reading at a place of a text: a word, a number, a field, a row.
+ghost use Rattle.std.specs.Prelude.{◌≡◌, IfSome, eqb, length, drop};
+ghost use Rattle.text.specs.Numbers.{run, value_of, well_formed, number_of};
+ghost use Rattle.text.specs.Lines.{begins, field, row};
+ghost use Rattle.text.specs.Told.{told_number, told_word, told_row};
 
-use crate::{Form, whole};
-use rules::LINES;
+use std::marker::Model;
 
-// The text that the reader was given, and its place in it.
+// A text and the place where it is read. A clause sees the bytes from the place on. Once a method has answered None, the place is of no
+// further use.
 #[derive(Drop)]
 pub(crate) struct Reader<'a> {
-    pub text: &'a [u8],
-    pub at: usize,
+    text: &'a [u8],
+    at: usize,
 }
 
-// The reader of a text, at its start.
-fn new<'a>(text: &'a [u8]) -> Reader<'a>
-    ensures { (result.text ≡ text.entry) × (result.at ≡ 0) }
-{
-    Reader { text, at: 0 }
+impl<'a> Model for Reader<'a> {
+    ghost use Rattle.std.specs.Prelude.{◌≤◌, ℕ, List, length, drop};
+
+    ghost Value = { List ℕ };
+
+    ghost view = { λ r. drop r.at r.text.now };
+
+    ghost invariant = { λ r. r.at ≤ length r.text.now };
 }
 
-// The same reader, so many bytes further on.
-fn moved<'a>(r: Reader<'a>, used: usize) -> Reader<'a>
-    requires { r.at + used ≤ length r.text.now }
-    ensures { (result.text ≡ r.entry.text) × (result.at ≡ r.entry.at + used) }
+// The line that a row states.
+#[derive(Clone, Copy)]
+pub(crate) struct Line {
+    pub first: usize,
+    pub second: usize,
+    pub signals: usize,
+}
+
+// The digits at the front, at most nine: what they state, and how many they are.
+fn digits(l: &[u8]) -> (usize, usize)
+    ensures { (result.0 ≡ value_of 0 (run 9 l.now)) × (result.1 ≡ length (run 9 l.now)) }
 {
-    Reader {
-        text: r.text,
-        at: r.at + used,
+    let mut v: usize = 0;
+    for (k, b) in l.iter().enumerate() {
+        if k == 9 || !b.is_ascii_digit() {
+            return (v, k);
+        }
+        v = 10 * v + (*b - b'0') as usize;
+    }
+    (v, l.len())
+}
+
+// Whether digits are a number: one digit, or more of which the first is not 0.
+fn well_formed(digits: &[u8]) -> bool
+    ensures { result ≡ well_formed digits.now }
+{
+    match digits {
+        [] => false,
+        [_] => true,
+        [first, ..] => *first != b'0',
     }
 }
 
-// The form of the text from the reader's place on.
-fn form_here<'a>(r: Reader<'a>) -> Form
-    requires { r.at ≤ length r.text.now }
-    ensures { result ≡ form (drop r.entry.at r.entry.text.now) }
-{
-    whole::form_at(r.text, r.at)
-}
+impl<'a> Reader<'a> {
+    // The reader of a text, at its start.
+    pub(crate) fn new(text: &'a [u8]) -> Reader<'a>
+        ensures { result ≡ text.entry.now }
+    {
+        Reader { text, at: 0 }
+    }
 
-// The numbers of the m rows at the reader's place.
-fn rows_here<'t, 'a, 'b, 's>(
-    r: Reader<'t>,
-    m: usize,
-    a: &'a mut [usize; LINES],
-    b: &'b mut [usize; LINES],
-    s: &'s mut [usize; LINES],
-)
-    requires { (r.at ≤ length r.text.now) × (m ≤ 1024)
-        × (length a.old ≡ 1024) × (length b.old ≡ 1024) × (length s.old ≡ 1024) }
-    ensures { RowsAre m (drop r.entry.at r.entry.text.now)
-        a.old b.old s.old a.new b.new s.new }
-{
-    whole::keep_rows(r.text, r.at, m, a, b, s)
-}
+    // A further reader at the same place. Clone is not derived: a clause does not see the text before the place.
+    pub(crate) fn again(&self) -> Reader<'a>
+        ensures { result ≡ self.now }
+    {
+        Reader {
+            text: self.text,
+            at: self.at,
+        }
+    }
 
-// The form of a text.
-pub(crate) fn form_of(text: &[u8]) -> Form
-    ensures { result ≡ form text.now }
-{
-    form_here(new(text))
-}
+    // The bytes from the place on.
+    fn rest(&self) -> &'a [u8]
+        ensures { result.now ≡ self.now }
+    {
+        &self.text[self.at..]
+    }
 
-// The numbers of the m rows after the first so many bytes of a text.
-pub(crate) fn rows_of(
-    text: &[u8],
-    used: usize,
-    m: usize,
-    a: &mut [usize; LINES],
-    b: &mut [usize; LINES],
-    s: &mut [usize; LINES],
-)
-    requires { (used ≤ length text.now) × (m ≤ 1024)
-        × (length a.old ≡ 1024) × (length b.old ≡ 1024) × (length s.old ≡ 1024) }
-    ensures { RowsAre m (drop used text.now)
-        a.old b.old s.old a.new b.new s.new }
-{
-    rows_here(moved(new(text), used), m, a, b, s)
+    // Whether the place is the end of the text.
+    pub(crate) fn at_end(&self) -> bool
+        ensures { result ≡ eqb (length self.now) 0 }
+    {
+        self.at == self.text.len()
+    }
+
+    // Passes the word, with which the text should go on.
+    pub(crate) fn word(&mut self, w: &[u8]) -> Option<()>
+        ensures answer { result ≡ told_word (begins w.now self.old) }
+        ensures moved { IfSome result (λ _. self.new ≡ drop (length w.now) self.old) }
+    {
+        if !self.rest().starts_with(w) {
+            return None;
+        }
+        self.at += w.len();
+        Some(())
+    }
+
+    // The number at the place.
+    fn number(&mut self) -> Option<usize>
+        ensures answer { result ≡ told_number (number_of self.old) }
+        ensures moved { IfSome result (λ _. self.new ≡ drop (number_of self.old).used self.old) }
+    {
+        let rest = self.rest();
+        let (v, count) = digits(rest);
+        if !well_formed(&rest[..count]) {
+            return None;
+        }
+        self.at += count;
+        Some(v)
+    }
+
+    // The field at the place: a key, a number, and what ends it.
+    pub(crate) fn field(&mut self, key: &[u8], stop: &[u8]) -> Option<usize>
+        ensures answer { result ≡ told_number (field key.now stop.now self.old) }
+        ensures moved { IfSome result (λ _. self.new ≡ drop (field key.now stop.now self.old).used self.old) }
+    {
+        self.word(key)?;
+        let v = self.number()?;
+        self.word(stop)?;
+        Some(v)
+    }
+
+    // The row at the place.
+    pub(crate) fn row(&mut self) -> Option<Line>
+        ensures answer { result ≡ told_row (row self.old) }
+        ensures moved { IfSome result (λ _. self.new ≡ drop (row self.old).used self.old) }
+    {
+        let first = self.field(b"line=", b",")?;
+        let second = self.field(b"", b",")?;
+        let signals = self.field(b"", b"\n")?;
+        Some(Line {
+            first,
+            second,
+            signals,
+        })
+    }
 }

@@ -3,22 +3,48 @@ ghost use Rattle.std.specs.Prelude.{◌≡◌, ◌+◌, ◌≤◌, length, drop}
 ghost use Rattle.text.specs.Numbers.{digits};
 ghost use Rattle.text.specs.Lines.{field_text, row_text};
 ghost use Rattle.text.specs.Form.{rows_text, plant_text};
-ghost use Rattle.text.specs.Writing.{placed, WriteIs};
+ghost use Rattle.text.specs.Writing.{written_told, WriteIs};
+ghost use Rattle.text.specs.Writer.{HasRoom, Writes};
 
-use crate::Written;
-use cut::check;
+use cut::plant::Plant;
+use rules::Fault;
 
-// Copies a word to a place of the list, and answers the place after it.
-pub(crate) fn put(bytes: &mut [u8], at: usize, word: &[u8]) -> usize
-    requires { at + length word.now ≤ length bytes.old }
-    ensures { (result ≡ at + length word.now) × (bytes.new ≡ placed bytes.old at word.now) }
-{
-    let mut i = 0;
-    while i < word.len() {
-        bytes[at + i] = word[i];
-        i += 1;
+// A list of bytes, and the place where the next word goes.
+#[derive(Drop)]
+pub(crate) struct Writer<'a> {
+    bytes: &'a mut [u8],
+    pub at: usize,
+}
+
+impl<'a> Writer<'a> {
+    // The writer of a list, at its front.
+    pub(crate) fn new(bytes: &'a mut [u8]) -> Writer<'a>
+        ensures { (result.bytes.ghost_name ≡ bytes.entry.ghost_name) × (result.bytes.now ≡ bytes.old) × (result.at ≡ 0) }
+    {
+        Writer { bytes, at: 0 }
     }
-    at + i
+
+    // Writes a word.
+    pub(crate) fn put(&mut self, word: &[u8])
+        requires { HasRoom self.old word.now }
+        ensures { Writes self.old word.now self.new }
+    {
+        let to = self.at + word.len();
+        self.bytes[self.at..to].copy_from_slice(word);
+        self.at = to;
+    }
+
+    // Writes a field: a key, a number, and what ends it.
+    pub(crate) fn put_field(&mut self, key: &[u8], v: usize, stop: &[u8])
+        requires { HasRoom self.old (field_text key.now stop.now v) }
+        ensures { Writes self.old (field_text key.now stop.now v) self.new }
+    {
+        let mut d = [0u8; 9];
+        let start = decimals(&mut d, v);
+        self.put(key);
+        self.put(&d[start..]);
+        self.put(stop);
+    }
 }
 
 // Writes the digits of a number to the end of an array, and answers where they start.
@@ -27,62 +53,34 @@ fn decimals(d: &mut [u8; 9], v: usize) -> usize
     ensures { (result ≤ 9) × (length d.new ≡ 9) × (drop result d.new ≡ digits v) }
 {
     let mut rest = v;
-    let mut at: usize = 9;
-    while 0 < at {
-        at -= 1;
-        d[at] = (48 + rest % 10) as u8;
+    for at in (0..9).rev() {
+        d[at] = b'0' + (rest % 10) as u8;
         if rest < 10 {
             return at;
         }
-        rest = rest / 10;
+        rest /= 10;
     }
-    at
-}
-
-// Writes a field: a key, a number, and what ends it.
-pub(crate) fn put_field(bytes: &mut [u8], at: usize, key: &[u8], v: usize, stop: &[u8]) -> usize
-    requires { at + length (field_text key.now stop.now v) ≤ length bytes.old }
-    ensures { (result ≡ at + length (field_text key.now stop.now v))
-        × (bytes.new ≡ placed bytes.old at (field_text key.now stop.now v)) }
-{
-    let mut d = [0u8; 9];
-    let start = decimals(&mut d, v);
-    let after_key = put(bytes, at, key);
-    let after_number = put(bytes, after_key, &d[start..]);
-    put(bytes, after_number, stop)
+    0
 }
 
 // Writes a row.
-fn put_row(bytes: &mut [u8], at: usize, a: usize, b: usize, s: usize) -> usize
-    requires { at + length (row_text a b s) ≤ length bytes.old }
-    ensures { (result ≡ at + length (row_text a b s)) × (bytes.new ≡ placed bytes.old at (row_text a b s)) }
+fn put_row(out: &mut Writer<'_>, a: usize, b: usize, s: usize)
+    requires { HasRoom out.old (row_text a b s) }
+    ensures { Writes out.old (row_text a b s) out.new }
 {
-    let after_first = put_field(bytes, at, b"line=", a, b",");
-    let after_second = put_field(bytes, after_first, b"", b, b",");
-    put_field(bytes, after_second, b"", s, b"\n")
+    out.put_field(b"line=", a, b",");
+    out.put_field(b"", b, b",");
+    out.put_field(b"", s, b"\n");
 }
 
 // Writes the rows of all lines.
-fn put_rows(
-    bytes: &mut [u8],
-    at: usize,
-    firsts: &[usize],
-    seconds: &[usize],
-    signals: &[usize],
-) -> usize
-    requires lists { (length firsts.now ≡ length seconds.now) × (length seconds.now ≡ length signals.now) }
-    requires room { at + length (rows_text firsts.now seconds.now signals.now) ≤ length bytes.old }
-    ensures { (result ≡ at + length (rows_text firsts.now seconds.now signals.now))
-        × (bytes.new
-        ≡ placed bytes.old at (rows_text firsts.now seconds.now signals.now)) }
+fn put_rows(out: &mut Writer<'_>, plant: &Plant)
+    requires { HasRoom out.old (rows_text plant.now.firsts.now plant.now.seconds.now plant.now.signals.now) }
+    ensures { Writes out.old (rows_text plant.now.firsts.now plant.now.seconds.now plant.now.signals.now) out.new }
 {
-    let mut to = at;
-    let mut i = 0;
-    while i < firsts.len() {
-        to = put_row(bytes, to, firsts[i], seconds[i], signals[i]);
-        i += 1;
+    for i in 0..plant.firsts.len() {
+        put_row(out, plant.firsts[i], plant.seconds[i], plant.signals[i]);
     }
-    to
 }
 
 // How many digits a number has.
@@ -101,64 +99,46 @@ fn row_len(a: usize, b: usize, s: usize) -> usize
 }
 
 // How many bytes the rows of all lines take.
-fn rows_len(firsts: &[usize], seconds: &[usize], signals: &[usize]) -> usize
-    requires lists { (length firsts.now ≡ length seconds.now) × (length seconds.now ≡ length signals.now) }
-    requires few { length firsts.now ≤ 1024 }
-    ensures { (result ≡ length (rows_text firsts.now seconds.now signals.now)) × (result ≤ 35840) }
+fn rows_len(plant: &Plant) -> usize
+    ensures { (result ≡ length (rows_text plant.now.firsts.now plant.now.seconds.now plant.now.signals.now)) × (result ≤ 35840) }
 {
     let mut sum: usize = 0;
-    let mut i = 0;
-    while i < firsts.len() {
-        sum += row_len(firsts[i], seconds[i], signals[i]);
-        i += 1;
+    for i in 0..plant.firsts.len() {
+        sum += row_len(plant.firsts[i], plant.seconds[i], plant.signals[i]);
     }
     sum
 }
 
-// Writes the text of a plant to the front of the list.
-fn put_plant(n: usize, firsts: &[usize], seconds: &[usize], signals: &[usize], bytes: &mut [u8])
-    requires lists { (length firsts.now ≡ length seconds.now) × (length seconds.now ≡ length signals.now) }
-    requires room { length (plant_text n firsts.now seconds.now signals.now) ≤ length bytes.old }
-    ensures { bytes.new
-        ≡ placed bytes.old 0 (plant_text n firsts.now seconds.now signals.now) }
+// Writes the text of a plant.
+fn put_plant(out: &mut Writer<'_>, plant: &Plant)
+    requires { HasRoom out.old (plant_text plant.now.devices plant.now.firsts.now plant.now.seconds.now plant.now.signals.now) }
+    ensures { Writes out.old (plant_text plant.now.devices plant.now.firsts.now plant.now.seconds.now plant.now.signals.now) out.new }
 {
-    let after_plant = put(bytes, 0, b"plant=1\n");
-    let after_devices = put_field(bytes, after_plant, b"devices=", n, b"\n");
-    let after_lines = put_field(bytes, after_devices, b"lines=", firsts.len(), b"\n");
-    let after_rows = put_rows(bytes, after_lines, firsts, seconds, signals);
-    put(bytes, after_rows, b"end=plant\n");
+    out.put(b"plant=1\n");
+    out.put_field(b"devices=", plant.devices, b"\n");
+    out.put_field(b"lines=", plant.firsts.len(), b"\n");
+    put_rows(out, plant);
+    out.put(b"end=plant\n");
 }
 
-// Number and place, and how many bytes of the list the text of a plant takes.
+// Writes the text of a plant to the front of a list, and answers how many bytes it takes.
+// The plant comes as n and three lists, wrong ones too: document 01, "A plant is n with three lists of one length".
 pub fn write_plant(
     n: usize,
     firsts: &[usize],
     seconds: &[usize],
     signals: &[usize],
     bytes: &mut [u8],
-) -> Written
-    ensures { WriteIs n firsts.now seconds.now signals.now bytes.old result bytes.new }
+) -> Result<usize, Fault>
+    ensures { WriteIs n firsts.now seconds.now signals.now bytes.old (written_told result) bytes.new }
 {
-    let r = check::check_plant(n, firsts, seconds, signals);
-    if r.number != 0 {
-        return Written {
-            number: r.number,
-            place: r.place,
-            count: 0,
-        };
-    }
-    let count = 34 + number_len(n) + number_len(firsts.len()) + rows_len(firsts, seconds, signals);
+    let plant = Plant::new(n, firsts, seconds, signals)?;
+    let lines = plant.firsts.len();
+    let count = 34 + number_len(plant.devices) + number_len(lines) + rows_len(&plant);
     if bytes.len() < count {
-        return Written {
-            number: 12,
-            place: 0,
-            count: 0,
-        };
+        return Err(Fault::ShortList);
     }
-    put_plant(n, firsts, seconds, signals, bytes);
-    Written {
-        number: 0,
-        place: 0,
-        count,
-    }
+    let mut out = Writer::new(bytes);
+    put_plant(&mut out, &plant);
+    Ok(count)
 }

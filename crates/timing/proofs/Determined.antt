@@ -2,7 +2,7 @@
 use Prim.Native.Nat.{ℕ}
 use mathlib.Core.Path.{◌≡◌, sym, ap, ◌∙◌}
 use mathlib.Core.List.{List}
-use Rattle.grouping.specs.declared.hierarchy.Levels.{Levels}
+use Rattle.grouping.specs.Calls.{Levels}
 use Rattle.grouping.proofs.HierarchyDetermined.{hierarchy-call-determined}
 use Rattle.timing.specs.Timed.{TimedIs}
 

@@ -1,21 +1,19 @@
 -- `cut::community::fill_community` meets its contract: the device alone is wanted, so it owns just its community, and the counts over its marks are its size and out.
 -- Assumes nothing.
-use mathlib.Core.Path.{◌∙◌}
+use Rattle.std.proofs.Common.{◌∙◌, arith}
 use Rattle.cut.proofs.CallLaws.{found-size, found-out, found-marks}
 use Rattle.cut.proofs.community.fill_community.Goals as goal
 
-pub returns-clause-answer : goal.returns-clause-answer
-returns-clause-answer c =
-    let s = c in
-    let own = c.own_communities.ensures in
-    let mark = c.mark_owned-mark.ensures in
-    let size = c.count_marks-size.ensures ∙ found-size _ _ _ _ _ _ _ s.requires.accepted s.requires.taken.1 _ _ c.mark_owned-mark.result own mark in
-    let out = c.cut_signals-out.ensures ∙ found-out _ _ _ _ _ _ _ s.requires.accepted s.requires.taken.1 _ _ c.mark_owned-mark.result own mark in (λ i. record { number = 0; place = 0; size = size i; out = out i })
+pub returns-clause-size_is : goal.returns-clause-size_is
+returns-clause-size_is c =
+    c.count_marks.ensures ∙ found-size _ _ _ _ _ _ _ c.args.plant.now.accepted c.requires.0 _ _ c.mark_owned-mark.result c.own_communities.ensures c.mark_owned-mark.ensures
+
+pub returns-clause-out_is : goal.returns-clause-out_is
+returns-clause-out_is c =
+    c.cut_signals.ensures ∙ found-out _ _ _ _ _ _ _ c.args.plant.now.accepted c.requires.0 _ _ c.mark_owned-mark.result c.own_communities.ensures c.mark_owned-mark.ensures
 
 pub returns-clause-marks_filled : goal.returns-clause-marks_filled
 returns-clause-marks_filled c =
-    let s = c in
-    let own = c.own_communities.ensures in
-    let mark = c.mark_owned-mark.ensures in
-    let size = c.count_marks-size.ensures ∙ found-size _ _ _ _ _ _ _ s.requires.accepted s.requires.taken.1 _ _ c.mark_owned-mark.result own mark in
-    let out = c.cut_signals-out.ensures ∙ found-out _ _ _ _ _ _ _ s.requires.accepted s.requires.taken.1 _ _ c.mark_owned-mark.result own mark in c.copy_marks.ensures ∙ found-marks _ _ _ _ _ _ _ s.requires.accepted s.requires.taken.1 _ _ c.mark_owned-mark.result own mark _
+    let a = c.args.plant.now.accepted in
+    found-marks _ _ _ _ _ _ _ a c.requires.0 _ _ c.mark_owned-mark.result c.own_communities.ensures c.mark_owned-mark.ensures c.args.marks.now _
+    (omega (arith, a.most_devices)) c.copy_from_slice.ensures.after

@@ -1,4 +1,4 @@
--- `cut::sets::widen` meets its contract. The loop's invariant: the lines below l have their width. The measure is the number of lines left.
+-- `cut::sets::widen` meets its contract. The loop's invariant: the lines below l have their width.
 -- Assumes nothing.
 use Rattle.rules.proofs.FillLaws.{filled-done}
 use Rattle.cut.proofs.sets.widen.Goals as goal

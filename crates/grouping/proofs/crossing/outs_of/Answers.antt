@@ -10,11 +10,11 @@ use Rattle.grouping.proofs.crossing.outs_of.Goals as goal
 use Rattle.grouping.proofs.crossing.outs_of.Goals.{In-loop-l, then-h-k, else-h-k}
 
 pub loop-l-init : goal.loop-l-init
-loop-l-init c = (omega arith, tally-start _ _ (omega (arith, c.requires.0.most_devices)))
+loop-l-init c = (omega arith, tally-start _ _ (omega (arith, c.args.plant.now.accepted.most_devices)))
 
 -- what is known of line l
-line : (c : In-loop-l) → LineFits c.args.n c.args.firsts.now c.args.seconds.now c.args.signals.now c.args.labels.now c.loop-l.outs c.loop-l.l (c.loop-l.l * 65535)
-line c = outed-fits _ _ _ _ _ c.loop-l.invariant.1 c.requires.0 c.requires.1 c.loop-l-test.true
+line : (c : In-loop-l) → LineFits c.args.plant.now.devices c.args.plant.now.firsts.now c.args.plant.now.seconds.now c.args.plant.now.signals.now c.args.labels.now c.loop-l.outs c.loop-l.l (c.loop-l.l * 65535)
+line c = outed-fits _ _ _ _ _ c.loop-l.invariant.1 c.args.plant.now.accepted c.requires c.loop-l-test.true
 
 pub overflow_add-outs : goal.overflow_add-outs
 overflow_add-outs c =
@@ -39,4 +39,4 @@ loop-l-preserved c =
     )
 
 pub returns : goal.returns
-returns c = outed-done _ _ _ _ _ c.requires.0 c.loop-l.invariant.1 (le_antisymm c.loop-l.invariant.0 c.loop-l-test.false)
+returns c = outed-done _ _ _ _ _ c.args.plant.now.accepted c.loop-l.invariant.1 (le_antisymm c.loop-l.invariant.0 c.loop-l-test.false)

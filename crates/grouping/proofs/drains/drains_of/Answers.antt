@@ -9,18 +9,30 @@ use Rattle.grouping.proofs.FitLaws.{turn-within}
 use Rattle.grouping.proofs.GroupSums.{LineFits, first-label-in, second-label-in}
 use Rattle.grouping.proofs.DrainLaws.{width_most, led-sum, led-start, led-same, led-both, led-fits, led-done}
 use Rattle.grouping.proofs.drains.drains_of.Goals as goal
-use Rattle.grouping.proofs.drains.drains_of.Goals.{In-loop-l, then-wall-x, else-wall-x}
+use Rattle.grouping.proofs.drains.drains_of.Goals.{In-loop-l, then-nodes-x, else-nodes-x}
 
 pub loop-l-init : goal.loop-l-init
 loop-l-init c = (omega arith, led-start _ _ _ _ _ _ _ _ (omega arith) c.share_out-drains.ensures)
 
 -- what is known of line l
-line : (c : In-loop-l) → LineFits c.args.n c.args.firsts.now c.args.seconds.now c.args.signals.now c.args.node.now c.loop-l.drains c.loop-l.l (12800000000 + c.loop-l.l * 131070000)
-line c = led-fits _ _ _ _ _ _ _ _ c.requires.0 c.requires.2 c.requires.3 c.loop-l.invariant.1 c.requires.1 c.loop-l-test.true
+line : (c : In-loop-l) → LineFits c.args.nodes.now.plant.now.devices c.args.nodes.now.plant.now.firsts.now c.args.nodes.now.plant.now.seconds.now c.args.nodes.now.plant.now.signals.now c.args.nodes.now.node.now c.loop-l.drains c.loop-l.l (12800000000 + c.loop-l.l * 131070000)
+line c = led-fits _ _ _ _ _ _ _ _ c.args.nodes.now.plant.now.accepted c.args.rate.p_most c.args.rate.q_most c.loop-l.invariant.1 c.args.nodes.now.below c.loop-l-test.true
 
 -- the width of line l
-narrow : (c : In-loop-l) → c.args.q * get_or c.args.signals.now c.loop-l.l 0 ≤ 65535000
-narrow c = width_most _ _ c.requires.3 (line c).few
+narrow : (c : In-loop-l) → c.args.rate.q * get_or c.args.nodes.now.plant.now.signals.now c.loop-l.l 0 ≤ 65535000
+narrow c = width_most _ _ c.args.rate.q_most (line c).few
+
+pub loop-l-preserved : goal.loop-l-preserved
+loop-l-preserved c =
+    let known = line (goal.at.loop-l-preserved c).In-loop-l in (
+      turn-within _ _ c.loop-l-test.true,
+      elim c.if-nodes-x.branch [
+        | then-nodes-x w ↦
+            rw w.drains-is (led-both _ _ _ _ _ _ _ _ c.loop-l.invariant.1 w.if-nodes-x.true (first-label-in known) (second-label-in known))
+        | else-nodes-x w ↦
+            rw w.drains-is (led-same _ _ _ _ _ _ _ _ c.loop-l.invariant.1 w.if-nodes-x.false)
+      ],
+    )
 
 pub overflow_add-drains : goal.overflow_add-drains
 overflow_add-drains c =
@@ -28,24 +40,12 @@ overflow_add-drains c =
     let known = line turn in
     led-sum known.first_top known.most_lines (narrow turn)
 
-pub overflow_add-drains-then-wall-x : goal.overflow_add-drains-then-wall-x
-overflow_add-drains-then-wall-x c =
-    let turn = (goal.at.overflow_add-drains-then-wall-x c).In-loop-l in
+pub overflow_add-drains-then-nodes-x : goal.overflow_add-drains-then-nodes-x
+overflow_add-drains-then-nodes-x c =
+    let turn = (goal.at.overflow_add-drains-then-nodes-x c).In-loop-l in
     let known = line turn in
-    rw (get_or-set_other {A = ℕ} _ _ _ _ 0 (λ e. c.if-wall-x.true (ap (λ (x : ℕ). get_or c.args.wall.now x 0) (sym e)))) (led-sum known.second_top known.most_lines (narrow turn))
-
-pub loop-l-preserved : goal.loop-l-preserved
-loop-l-preserved c =
-    let known = line (goal.at.loop-l-preserved c).In-loop-l in (
-      turn-within _ _ c.loop-l-test.true,
-      elim c.if-wall-x.branch [
-        | then-wall-x w ↦
-            rw w.drains-is (led-both _ _ _ _ _ _ _ _ c.loop-l.invariant.1 w.if-wall-x.true (first-label-in known) (second-label-in known))
-        | else-wall-x w ↦
-            rw w.drains-is (led-same _ _ _ _ _ _ _ _ c.loop-l.invariant.1 w.if-wall-x.false)
-      ],
-    )
+    rw (get_or-set_other {A = ℕ} _ _ _ _ 0 (λ e. c.if-nodes-x.true (ap (λ (x : ℕ). get_or c.args.nodes.now.wall.now x 0) (sym e)))) (led-sum known.second_top known.most_lines (narrow turn))
 
 pub returns : goal.returns
 returns c =
-    led-done _ _ _ _ _ _ _ _ c.requires.0 c.requires.2 c.requires.3 c.loop-l.invariant.1 (le_antisymm c.loop-l.invariant.0 c.loop-l-test.false)
+    led-done _ _ _ _ _ _ _ _ c.args.nodes.now.plant.now.accepted c.args.rate.p_most c.args.rate.q_most c.loop-l.invariant.1 (le_antisymm c.loop-l.invariant.0 c.loop-l-test.false)

@@ -14,8 +14,8 @@ loop-v-init c = (omega arith, tally-start _ _ c.requires.0)
 device : (c : In-loop-v) → get_or c.args.node.now c.loop-v.v 0 < c.args.n
 device c = c.requires.1 c.loop-v.v c.loop-v-test.true
 
-pub overflow_add-drains : goal.overflow_add-drains
-overflow_add-drains c = omega (arith, shared-most _ _ _ c.loop-v.invariant.1 c.requires.2 _ (device (goal.at.overflow_add-drains c).In-loop-v))
+pub overflow_add-shares : goal.overflow_add-shares
+overflow_add-shares c = omega (arith, shared-most _ _ _ c.loop-v.invariant.1 c.requires.2 _ (device (goal.at.overflow_add-shares c).In-loop-v))
 
 pub loop-v-preserved : goal.loop-v-preserved
 loop-v-preserved c = (omega arith, shared-next _ _ _ c.loop-v.invariant.1 (omega (arith, device (goal.at.loop-v-preserved c).In-loop-v)))

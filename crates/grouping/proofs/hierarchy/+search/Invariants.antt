@@ -3,4 +3,4 @@ use Rattle.std.proofs.Common.{◌-◌}
 use Rattle.grouping.proofs.hierarchy.+search.Given as goal
 
 abbrev pub decreases-search : goal.decreases-search
-decreases-search l = l.finer_groups - l.coarser_groups
+decreases-search l = l.finer.now.groups - l.coarser.now.groups

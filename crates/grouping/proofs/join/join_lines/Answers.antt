@@ -1,5 +1,6 @@
--- `grouping::join::join_lines` meets its contract. The loop's invariant: the first l lines of the plant have made the m lines of the network. The measure is the number of lines left. Assumes nothing.
-use native.Mathlib.Omega.{arith}
+-- `grouping::join::join_lines` meets its contract. The loop's invariant: the first l lines of the plant have made the lines of the network.
+-- Assumes nothing.
+use Rattle.std.proofs.Common.{arith}
 use Rattle.grouping.proofs.JoinNetLaws.{joined-start}
 use Rattle.grouping.proofs.join.join_lines.Goals as goal
 

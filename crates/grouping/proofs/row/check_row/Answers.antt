@@ -1,25 +1,34 @@
 -- `grouping::row::check_row` meets its contract, test by test. Assumes nothing.
-use mathlib.Core.Path.{sym}
-use native.Mathlib.Omega.{arith}
+use Rattle.std.proofs.Common.{sym, arith}
+use native.Mathlib.Nat.{lt_of_le_of_lt, mul-le-mul}
+use lib.Dec.{lit<}
 use Rattle.rules.specs.Refusals.{done}
-use Rattle.grouping.proofs.RowCalls.{row-1, row-2, row-past, row-over, row-12, row_done}
+use Rattle.rules.proofs.FaultLaws.{devices-right, err-is}
+use Rattle.grouping.proofs.RowCalls.{row-devices, row-past, row-over, row-12, row_done}
 use Rattle.grouping.proofs.row.check_row.Goals as goal
+use Rattle.grouping.proofs.row.check_row.Goals.{then-levels-k-via-then-levels-k, then-levels-k-via-else-levels-k+then-n-levels}
 
-pub returns-then-n-eq0 : goal.returns-then-n-eq0
-returns-then-n-eq0 c = sym (row-1 _ _ _ _ c.if-n-eq0.true)
-
-pub returns-then-n-gt-DEVICES : goal.returns-then-n-gt-DEVICES
-returns-then-n-gt-DEVICES c = sym (row-2 _ _ _ _ c.if-n-gt-DEVICES.true)
+pub returns-in_err-check_devices : goal.returns-in_err-check_devices
+returns-in_err-check_devices c =
+    let f = c.in_err-check_devices.field-0.0 in
+    rw (err-is c.from_residual.result f c.from_residual.ensures.1) (row-devices _ _ _ _ f c.in_err-check_devices.ensures)
 
 pub returns-then-levels-k : goal.returns-then-levels-k
-returns-then-levels-k c = sym (row-past _ _ _ _ (omega arith) c.if-n-gt-DEVICES.false c.if-levels-k.true)
-
-pub returns-then-over : goal.returns-then-over
-returns-then-over c = sym (row-over _ _ _ _ (omega arith) c.if-n-gt-DEVICES.false c.if-levels-k.false c.if-over.true)
+returns-then-levels-k c =
+    elim c.then-levels-k.branch [
+      | then-levels-k-via-then-levels-k w ↦ sym (row-past _ _ _ _ (devices-right _ c.in_ok-check_devices.ensures).0 (devices-right _ c.in_ok-check_devices.ensures).1 w.if-levels-k.true)
+      | then-levels-k-via-else-levels-k+then-n-levels w ↦
+          sym (row-over _ _ _ _ (devices-right _ c.in_ok-check_devices.ensures).0 (devices-right _ c.in_ok-check_devices.ensures).1 w.if-levels-k.false w.if-n-levels.true)
+    ]
 
 pub returns-then-labels-levels : goal.returns-then-labels-levels
-returns-then-labels-levels c = sym (row-12 _ _ _ _ (omega arith) c.if-n-gt-DEVICES.false c.if-levels-k.false c.if-over.false c.if-labels-levels.true)
+returns-then-labels-levels c = sym (row-12 _ _ _ _ (devices-right _ c.in_ok-check_devices.ensures).0 (devices-right _ c.in_ok-check_devices.ensures).1 c.if-levels-k.false c.if-n-levels.false c.if-labels-levels.true)
 
 pub returns : goal.returns
 unfolding done
-returns c = sym (row_done _ _ _ _ (omega arith) c.if-n-gt-DEVICES.false c.if-levels-k.false c.if-over.false c.if-labels-levels.false)
+returns c = sym (row_done _ _ _ _ (devices-right _ c.in_ok-check_devices.ensures).0 (devices-right _ c.in_ok-check_devices.ensures).1 c.if-levels-k.false c.if-n-levels.false c.if-labels-levels.false)
+
+pub overflow_mul-levels : goal.overflow_mul-levels
+overflow_mul-levels c =
+    let few = (devices-right _ c.in_ok-check_devices.ensures).1 in
+    record { fits = lt_of_le_of_lt (mul-le-mul {n₂ = 128} {m₂ = 128} (omega (arith, few, c.if-n-levels.false)) few) (lit< tt) }

@@ -1,4 +1,4 @@
--- `network::owners::paint_owners` meets its contract. The loop's invariant: the first v entries are painted. The measure is the number left.
+-- `network::owners::paint_owners` meets its contract. The loop's invariant: the first v entries are painted.
 -- Assumes nothing.
 use Rattle.rules.proofs.FillLaws.{filled-done}
 use Rattle.network.proofs.owners.paint_owners.Goals as goal

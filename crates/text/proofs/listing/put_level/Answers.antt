@@ -1,47 +1,43 @@
 -- `text::listing::put_level` meets its contract: four words are written one after the other.
 -- Assumes nothing.
-use Prim.Native.Nat.{ℕ, ◌+◌, ◌≤◌}
-use mathlib.Core.Path.{ap}
-use mathlib.Core.Bool.{Bool}
+use Prim.Native.Nat.{ℕ, suc}
+use mathlib.Core.Path.{◌≡◌}
+use Rattle.std.specs.Prelude.{Option}
+use Rattle.std.specs.Bool.{then_some}
+use Rattle.cut.specs.declared.rate.Rate.{Rate}
 use mathlib.Core.List.{List, [], ◌∷◌}
-use lib.ListN.{length}
+use lib.Dec.{ltb}
+use lib.ListN.{length, get_or}
+use Rattle.text.specs.declared.write.Writer.{Writer}
+use Rattle.text.specs.Writer.{HasRoom}
+use Rattle.text.specs.declared.levels.Levels.{Levels}
 use Rattle.text.specs.Lines.{newline, field_text}
 use Rattle.text.specs.Listing.{level_key, groups_key, head_count, low_text, groups_text, level_text}
-use Rattle.text.proofs.Wrote.{wrote_as}
-use Rattle.text.proofs.ListingLaws.{joined, Left, left-start, left-room, left-then, left-none}
+use Rattle.text.specs.Levels.{low_line, labels_of, level_of}
+use Rattle.text.proofs.ListingLaws.{low-is, joined, Left, left-start, left-room, left-then, left-none}
 use Rattle.text.proofs.listing.put_level.Goals as goal
 
-none : (old : List ℕ) (at n i : ℕ) (level : List ℕ) (has : Bool) (p q : ℕ) → at + length (level_text n i level has p q) ≤ length old
-    → Left old at (level_text n i level has p q) (field_text level_key newline i ∷ low_text has p q ∷ field_text groups_key newline (head_count level 0 n) ∷ groups_text n level 0 n ∷ []) at old
+none : (old : Writer) (s : Levels) (i : ℕ) {level : List ℕ} {low : Option Rate} {count : ℕ} → level ≡ labels_of s i → length level ≡ s.n
+    → low ≡ then_some (ltb (suc i) s.count) (record { p = get_or s.low_p.now i 0; q = get_or s.low_q.now i 0 })
+    → count ≡ head_count level 0 (length level) → HasRoom old (level_of s i)
+    → Left old (level_of s i)
+    (field_text level_key newline i ∷ low_line low ∷ field_text groups_key newline count ∷ groups_text (length level) level 0 (length level) ∷ []) old
 unfolding level_text joined
-none old at n i level has p q room =
-    left-start old at (field_text level_key newline i ∷ low_text has p q ∷ field_text groups_key newline (head_count level 0 n) ∷ groups_text n level 0 n ∷ []) room
+none old s i e k l h room =
+    rw (l, low-is, h, k, e)
+    (left-start old (field_text level_key newline i ∷ low_text (ltb (suc i) s.count) (get_or s.low_p.now i 0) (get_or s.low_q.now i 0) ∷ field_text groups_key newline (head_count (labels_of s i) 0 s.n) ∷ groups_text s.n (labels_of s i) 0 s.n ∷ []) room)
 
-pub put_field-after_number-requires : goal.put_field-after_number-requires
-put_field-after_number-requires c =
-    left-room (none c.args.bytes.now c.args.at c.args.n c.args.i c.args.level.now c.args.has c.args.p c.args.q c.requires.room)
+pub put_field-requires : goal.put_field-requires
+put_field-requires c = left-room (none c.args.out.now c.args.levels.now c.args.i c.level-level.ensures.labels c.level-level.ensures.one_each c.low-low.ensures c.count_heads-groups.ensures c.requires.room)
 
-pub put_low-after_low-requires : goal.put_low-after_low-requires
-put_low-after_low-requires c =
-    let none-here = none c.args.bytes.now c.args.at c.args.n c.args.i c.args.level.now c.args.has c.args.p c.args.q c.requires.room in
-    left-room (left-then none-here c.put_field-after_number.ensures)
+pub put_low-requires : goal.put_low-requires
+put_low-requires c = left-room (left-then (none c.args.out.now c.args.levels.now c.args.i c.level-level.ensures.labels c.level-level.ensures.one_each c.low-low.ensures c.count_heads-groups.ensures c.requires.room) c.put_field.ensures)
 
-pub put_field-after_groups-requires : goal.put_field-after_groups-requires
-put_field-after_groups-requires c =
-    let none-here = none c.args.bytes.now c.args.at c.args.n c.args.i c.args.level.now c.args.has c.args.p c.args.q c.requires.room in
-    let one = left-then none-here c.put_field-after_number.ensures in
-    rw c.count_heads-groups.ensures (left-room (left-then one c.put_low-after_low.ensures))
+pub put_field-requires-2 : goal.put_field-requires-2
+put_field-requires-2 c = left-room (left-then (left-then (none c.args.out.now c.args.levels.now c.args.i c.level-level.ensures.labels c.level-level.ensures.one_each c.low-low.ensures c.count_heads-groups.ensures c.requires.room) c.put_field.ensures) c.put_low.ensures)
 
-pub put_groups-requires-clause-room : goal.put_groups-requires-clause-room
-put_groups-requires-clause-room c =
-    let none-here = none c.args.bytes.now c.args.at c.args.n c.args.i c.args.level.now c.args.has c.args.p c.args.q c.requires.room in
-    let two = left-then (left-then none-here c.put_field-after_number.ensures) c.put_low-after_low.ensures in
-    let counted = wrote_as _ _ _ _ (ap (field_text groups_key newline) c.count_heads-groups.ensures) c.put_field-after_groups.ensures in
-    left-room (left-then two counted)
+pub put_groups-requires : goal.put_groups-requires
+put_groups-requires c = left-room (left-then (left-then (left-then (none c.args.out.now c.args.levels.now c.args.i c.level-level.ensures.labels c.level-level.ensures.one_each c.low-low.ensures c.count_heads-groups.ensures c.requires.room) c.put_field.ensures) c.put_low.ensures) c.put_field-2.ensures)
 
 pub returns : goal.returns
-returns c =
-    let none-here = none c.args.bytes.now c.args.at c.args.n c.args.i c.args.level.now c.args.has c.args.p c.args.q c.requires.room in
-    let two = left-then (left-then none-here c.put_field-after_number.ensures) c.put_low-after_low.ensures in
-    let counted = wrote_as _ _ _ _ (ap (field_text groups_key newline) c.count_heads-groups.ensures) c.put_field-after_groups.ensures in
-    left-none (left-then (left-then two counted) c.put_groups.ensures)
+returns c = left-none (left-then (left-then (left-then (left-then (none c.args.out.now c.args.levels.now c.args.i c.level-level.ensures.labels c.level-level.ensures.one_each c.low-low.ensures c.count_heads-groups.ensures c.requires.room) c.put_field.ensures) c.put_low.ensures) c.put_field-2.ensures) c.put_groups.ensures)

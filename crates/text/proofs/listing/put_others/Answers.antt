@@ -2,8 +2,8 @@
 -- Assumes nothing.
 use Prim.Native.Nat.{suc, ◌-◌}
 use native.Mathlib.Numerals.{add-one}
-use native.Mathlib.Omega.{arith}
 use mathlib.Core.Path.{refl}
+use lib.ListN.{length}
 use Rattle.text.specs.Listing.{others_text}
 use Rattle.text.proofs.ListingLaws.{pieces-start, pieces-all, pieces_room, pieces_more, pieces_none, piece-taken, piece-left}
 use Rattle.text.proofs.listing.put_others.Invariants.{piece}
@@ -13,21 +13,20 @@ use Rattle.text.proofs.listing.put_others.Goals.{then-level-v, else-level-v}
 pub loop-v-init : goal.loop-v-init
 unfolding others_text
 loop-v-init c =
-    let whole = others_text c.args.level.now c.args.h (suc c.args.h) (c.args.n - suc c.args.h) in
-    pieces-start (piece c.args.level.now c.args.h) c.args.n whole c.args.bytes.now c.args.at c.requires.room _ (omega arith) (rw add-one refl)
+    let whole = others_text c.args.level.now c.args.h (suc c.args.h) (length c.args.level.now - suc c.args.h) in
+    pieces-start (piece c.args.level.now c.args.h) (length c.args.level.now) whole c.args.out.now c.requires.room _ (rw add-one refl)
 
-pub put_field-to-requires : goal.put_field-to-requires
-put_field-to-requires c =
-    pieces_room c.requires.room c.loop-v.invariant c.loop-v-test.true (piece-taken _ _ c.if-level-v.true)
+pub put_field-requires : goal.put_field-requires
+put_field-requires c = pieces_room c.requires.room c.loop-v.invariant c.loop-v-test.true (piece-taken _ _ c.if-level-v.true)
 
 pub loop-v-preserved : goal.loop-v-preserved
 loop-v-preserved c =
     elim c.if-level-v.branch [
       | then-level-v w ↦
-          rw (w.bytes-is, w.to-is)
-          (pieces_more c.requires.room c.loop-v.invariant c.loop-v-test.true (piece-taken _ _ w.if-level-v.true) w.put_field-to.ensures)
+          rw w.out-is
+          (pieces_more c.requires.room c.loop-v.invariant c.loop-v-test.true (piece-taken _ _ w.if-level-v.true) w.put_field.ensures)
       | else-level-v w ↦
-          rw (w.bytes-is, w.to-is)
+          rw w.out-is
           (pieces_none c.requires.room c.loop-v.invariant c.loop-v-test.true (piece-left _ _ _ w.if-level-v.false))
     ]
 

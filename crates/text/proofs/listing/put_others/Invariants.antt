@@ -1,10 +1,10 @@
--- `text::listing::put_others` meets its contract. The loop's invariant is `Pieces`: the devices before v are written. The measure is how many devices are left.
+-- `text::listing::put_others` meets its contract. The loop's invariant is `Pieces`: the devices before v are written.
 -- Assumes nothing.
 use Prim.Native.Nat.{ℕ, suc, ◌-◌}
 use mathlib.Core.Bool.{cond}
 use mathlib.Core.List.{List, []}
 use lib.Dec.{eqb}
-use lib.ListN.{get_or}
+use lib.ListN.{length, get_or}
 use Rattle.text.specs.Lines.{comma, field_text}
 use Rattle.text.specs.Listing.{others_text}
 use Rattle.text.proofs.ListingLaws.{Pieces}
@@ -16,7 +16,4 @@ piece level h i = cond (eqb (get_or level i 0) h) (field_text comma [] i) []
 
 abbrev pub invariant-loop-v : goal.invariant-loop-v
 invariant-loop-v l =
-    Pieces (piece l.level l.h) l.n (others_text l.level l.h (suc l.h) (l.n - suc l.h)) l.initial.bytes l.at l.bytes l.to l.v
-
-abbrev pub decreases-loop-v : goal.decreases-loop-v
-decreases-loop-v l = l.n - l.v
+    Pieces (piece l.level l.h) (length l.level) (others_text l.level l.h (suc l.h) (length l.level - suc l.h)) l.initial.out l.out l.v

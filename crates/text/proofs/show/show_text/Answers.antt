@@ -1,51 +1,44 @@
 -- `text::show::show_text` meets its contract: a text is read into lists with room for every plant, and its refusal or its plant's listing is written.
 -- Assumes nothing.
-use native.Mathlib.Omega.{arith}
-use mathlib.Core.Path.{◌≡◌, refl, sym}
-use lib.ListN.{length, take}
+use Rattle.std.proofs.Common.{refl, sym, arith}
+use Rattle.rules.specs.Faults.{refusal_of}
+use Rattle.rules.proofs.FaultLaws.{fault-some}
 use Rattle.text.proofs.Judged.{front_fits}
 use Rattle.text.proofs.ListingBound.{refused-most}
+use Rattle.text.proofs.Wrote.{front-room, wrote-front}
 use Rattle.text.proofs.ShownCalls.{text-refused, text-counted, text-accepts, text-shown}
 use Rattle.text.proofs.show.show_text.Goals as goal
-use Rattle.text.proofs.show.show_text.Goals.{Else-r-ne0}
 
--- after the test: the front of each list is what the text states
-counted : (c : Else-r-ne0) →
-    let r = c.read_plant-r.result in
-    let last = c.read_plant-r.new in
-    (length (take r.lines last.firsts) ≡ r.lines) × (length (take r.lines last.seconds) ≡ r.lines) × (length (take r.lines last.signals) ≡ r.lines)
-counted c = text-counted refl refl refl c.read_plant-r.ensures c.if-r-ne0.false
+pub slice_bounds-firsts-end : goal.slice_bounds-firsts-end
+slice_bounds-firsts-end c = front_fits _ _ (text-counted refl refl refl c.in-Ok.ensures refl).0
+
+pub slice_bounds-plant-end : goal.slice_bounds-plant-end
+slice_bounds-plant-end c = sym (text-counted refl refl refl c.in-Ok.ensures refl).0
+
+pub slice_bounds-seconds-end : goal.slice_bounds-seconds-end
+slice_bounds-seconds-end c = front_fits _ _ (text-counted refl refl refl c.in-Ok.ensures refl).1
+
+pub slice_bounds-plant-end-in-Ok : goal.slice_bounds-plant-end-in-Ok
+slice_bounds-plant-end-in-Ok c = sym (text-counted refl refl refl c.in-Ok.ensures refl).1
+
+pub slice_bounds-signals-end : goal.slice_bounds-signals-end
+slice_bounds-signals-end c = front_fits _ _ (text-counted refl refl refl c.in-Ok.ensures refl).2
+
+pub slice_bounds-plant-end-in-Ok-2 : goal.slice_bounds-plant-end-in-Ok-2
+slice_bounds-plant-end-in-Ok-2 c = sym (text-counted refl refl refl c.in-Ok.ensures refl).2
+
+pub invariant_of-plant : goal.invariant_of-plant
+invariant_of-plant c = record { accepted = text-accepts refl refl refl c.in-Ok.ensures refl }
+
+pub returns-in-Ok : goal.returns-in-Ok
+returns-in-Ok c = text-shown refl refl refl c.in-Ok.ensures refl c.show_plant.ensures
 
 pub put_refusal-requires : goal.put_refusal-requires
 put_refusal-requires c =
-    omega (arith, refused-most c.read_plant-r.result.number c.read_plant-r.result.place, c.requires)
+    front-room c.new-out.result _ c.new-out.ensures.1 c.new-out.ensures.2
+    (omega (arith, refused-most (refusal_of c.in-Err.fault).number (refusal_of c.in-Err.fault).place, c.requires))
 
-pub returns-then-r-ne0 : goal.returns-then-r-ne0
-returns-then-r-ne0 c =
-    text-refused refl refl refl c.read_plant-r.ensures c.if-r-ne0.true c.put_refusal.ensures
-
-pub slice_bounds-firsts-end : goal.slice_bounds-firsts-end
-slice_bounds-firsts-end c = front_fits _ _ (counted (goal.at.slice_bounds-firsts-end c).Else-r-ne0).0
-
-pub slice_bounds-show_plant-end : goal.slice_bounds-show_plant-end
-slice_bounds-show_plant-end c = sym (counted (goal.at.slice_bounds-show_plant-end c).Else-r-ne0).0
-
-pub slice_bounds-seconds-end : goal.slice_bounds-seconds-end
-slice_bounds-seconds-end c = front_fits _ _ (counted (goal.at.slice_bounds-seconds-end c).Else-r-ne0).1
-
-pub slice_bounds-show_plant-end-2 : goal.slice_bounds-show_plant-end-2
-slice_bounds-show_plant-end-2 c = sym (counted (goal.at.slice_bounds-show_plant-end-2 c).Else-r-ne0).1
-
-pub slice_bounds-signals-end : goal.slice_bounds-signals-end
-slice_bounds-signals-end c = front_fits _ _ (counted (goal.at.slice_bounds-signals-end c).Else-r-ne0).2
-
-pub slice_bounds-show_plant-end-3 : goal.slice_bounds-show_plant-end-3
-slice_bounds-show_plant-end-3 c = sym (counted (goal.at.slice_bounds-show_plant-end-3 c).Else-r-ne0).2
-
-pub returns : goal.returns
-returns c =
-    text-shown refl refl refl c.read_plant-r.ensures c.if-r-ne0.false c.show_plant.ensures
-
-pub show_plant-requires-clause-accepted : goal.show_plant-requires-clause-accepted
-show_plant-requires-clause-accepted c =
-    text-accepts refl refl refl c.read_plant-r.ensures c.if-r-ne0.false
+pub returns-in-Err : goal.returns-in-Err
+returns-in-Err c =
+    text-refused refl refl refl c.in-Err.ensures (fault-some c.in-Err.fault)
+    (omega (arith, c.put_refusal.ensures.at, c.new-out.ensures.2), search (wrote-front c.put_refusal.ensures c.new-out.ensures))

@@ -1,13 +1,13 @@
--- `text::whole::keep_rows` meets its contract. The loop's invariant: the place is within the text, and each array is `Kept`. The measure is how many
--- rows are left.
+-- `text::whole::keep_rows` meets its contract. The loop's invariant: i rows are passed, and each list is `Kept`.
 -- Assumes nothing.
-use Prim.Native.Nat.{◌-◌, ◌≤◌}
 use lib.ListN.{length}
+use Rattle.text.proofs.Forms.{Passing}
 use Rattle.text.proofs.Lists.{Kept}
 use Rattle.text.proofs.whole.keep_rows.Given as goal
 
 abbrev pub invariant-loop-i : goal.invariant-loop-i
-invariant-loop-i l = (l.i ≤ l.m) × (l.place ≤ length l.text) × Kept (λ w. w.first) l.text l.at l.m l.initial.a l.a l.place l.i × Kept (λ w. w.second) l.text l.at l.m l.initial.b l.b l.place l.i × Kept (λ w. w.signals) l.text l.at l.m l.initial.s l.s l.place l.i
-
-abbrev pub decreases-loop-i : goal.decreases-loop-i
-decreases-loop-i l = l.m - l.i
+invariant-loop-i l =
+    Passing (length l.initial.firsts) l.initial.rows l.i l.rows
+    × Kept (λ w. w.first) (length l.initial.firsts) l.initial.rows l.firsts l.i l.rows
+    × Kept (λ w. w.second) (length l.initial.firsts) l.initial.rows l.seconds l.i l.rows
+    × Kept (λ w. w.signals) (length l.initial.firsts) l.initial.rows l.signals l.i l.rows

@@ -1,12 +1,7 @@
--- `text::whole::pass_rows` meets its contract. The loop's invariant is `Passing`: so many rows are as expected, in so many bytes. The measure is
--- how many rows are left.
+-- `text::whole::pass_rows` meets its contract. The loop's invariant is `Passing`: k rows are as expected.
 -- Assumes nothing.
-use Prim.Native.Nat.{◌-◌}
 use Rattle.text.proofs.Forms.{Passing}
 use Rattle.text.proofs.whole.pass_rows.Given as goal
 
-abbrev pub invariant-loop-rows : goal.invariant-loop-rows
-invariant-loop-rows l = Passing l.text l.at l.m l.rows l.used
-
-abbrev pub decreases-loop-rows : goal.decreases-loop-rows
-decreases-loop-rows l = l.m - l.rows
+abbrev pub invariant-loop-k : goal.invariant-loop-k
+invariant-loop-k l = Passing l.m l.initial.reader l.k l.reader

@@ -15,4 +15,4 @@ pub loop-at-preserved : goal.loop-at-preserved
 loop-at-preserved c = digits_more c.loop-at.invariant c.loop-at-test.true c.if-rest-lt10.false
 
 pub returns : goal.returns
-returns c = (c.loop-at.invariant.most, c.loop-at.invariant.long, digits-none c.loop-at.invariant c.loop-at-test.false)
+returns c = (omega arith, c.loop-at.invariant.long, digits-none c.loop-at.invariant (omega arith))

@@ -1,55 +1,35 @@
 -- `text::write::put_plant` meets its contract: the five parts of the text are written one after the other.
 -- Assumes nothing.
-use Prim.Native.Nat.{ℕ, ◌+◌, ◌≤◌}
-use native.Mathlib.Omega.{arith}
+use Prim.Native.Nat.{ℕ}
 use mathlib.Core.List.{List, [], ◌∷◌}
 use lib.ListN.{length}
+use Rattle.text.specs.declared.write.Writer.{Writer}
+use Rattle.text.specs.Writer.{HasRoom}
 use Rattle.text.specs.Lines.{plant_line, devices_key, lines_key, end_line, newline, field_text}
 use Rattle.text.specs.Form.{rows_text, plant_text}
 use Rattle.text.proofs.ListingLaws.{joined, Left, left-start, left-room, left-then, left-none}
 use Rattle.text.proofs.write.put_plant.Goals as goal
 
--- room, from the first place on
-room-all : {k n : ℕ} → k ≤ n → 0 + k ≤ n
-room-all h = omega arith
-
-none : (old : List ℕ) (n : ℕ) (xs ys zs : List ℕ) → length (plant_text n xs ys zs) ≤ length old
-    → Left old 0 (plant_text n xs ys zs) (plant_line ∷ field_text devices_key newline n ∷ field_text lines_key newline (length xs) ∷ rows_text xs ys zs ∷ end_line ∷ []) 0 old
+none : (old : Writer) (n : ℕ) (xs ys zs : List ℕ) → HasRoom old (plant_text n xs ys zs)
+    → Left old (plant_text n xs ys zs) (plant_line ∷ field_text devices_key newline n ∷ field_text lines_key newline (length xs) ∷ rows_text xs ys zs ∷ end_line ∷ []) old
 unfolding plant_text joined
 none old n xs ys zs room =
-    left-start old 0 (plant_line ∷ field_text devices_key newline n ∷ field_text lines_key newline (length xs) ∷ rows_text xs ys zs ∷ end_line ∷ []) (room-all room)
-
-pub put-after_plant-requires : goal.put-after_plant-requires
-put-after_plant-requires c =
-    left-room (none c.args.bytes.now c.args.n c.args.firsts.now c.args.seconds.now c.args.signals.now c.requires.room)
-
-pub put_field-after_devices-requires : goal.put_field-after_devices-requires
-put_field-after_devices-requires c =
-    let none-here = none c.args.bytes.now c.args.n c.args.firsts.now c.args.seconds.now c.args.signals.now c.requires.room in
-    left-room (left-then none-here c.put-after_plant.ensures)
-
-pub put_field-after_lines-requires : goal.put_field-after_lines-requires
-put_field-after_lines-requires c =
-    let none-here = none c.args.bytes.now c.args.n c.args.firsts.now c.args.seconds.now c.args.signals.now c.requires.room in
-    let one = left-then none-here c.put-after_plant.ensures in
-    left-room (left-then one c.put_field-after_devices.ensures)
-
-pub put_rows-after_rows-requires-clause-room : goal.put_rows-after_rows-requires-clause-room
-put_rows-after_rows-requires-clause-room c =
-    let none-here = none c.args.bytes.now c.args.n c.args.firsts.now c.args.seconds.now c.args.signals.now c.requires.room in
-    let one = left-then none-here c.put-after_plant.ensures in
-    left-room (left-then (left-then one c.put_field-after_devices.ensures) c.put_field-after_lines.ensures)
+    left-start old (plant_line ∷ field_text devices_key newline n ∷ field_text lines_key newline (length xs) ∷ rows_text xs ys zs ∷ end_line ∷ []) room
 
 pub put-requires : goal.put-requires
-put-requires c =
-    let none-here = none c.args.bytes.now c.args.n c.args.firsts.now c.args.seconds.now c.args.signals.now c.requires.room in
-    let one = left-then none-here c.put-after_plant.ensures in
-    let three = left-then (left-then one c.put_field-after_devices.ensures) c.put_field-after_lines.ensures in
-    left-room (left-then three c.put_rows-after_rows.ensures)
+put-requires c = left-room (none c.args.out.now c.args.plant.now.devices c.args.plant.now.firsts.now c.args.plant.now.seconds.now c.args.plant.now.signals.now c.requires)
+
+pub put_field-requires : goal.put_field-requires
+put_field-requires c = left-room (left-then (none c.args.out.now c.args.plant.now.devices c.args.plant.now.firsts.now c.args.plant.now.seconds.now c.args.plant.now.signals.now c.requires) c.put.ensures)
+
+pub put_field-requires-2 : goal.put_field-requires-2
+put_field-requires-2 c = left-room (left-then (left-then (none c.args.out.now c.args.plant.now.devices c.args.plant.now.firsts.now c.args.plant.now.seconds.now c.args.plant.now.signals.now c.requires) c.put.ensures) c.put_field.ensures)
+
+pub put_rows-requires : goal.put_rows-requires
+put_rows-requires c = left-room (left-then (left-then (left-then (none c.args.out.now c.args.plant.now.devices c.args.plant.now.firsts.now c.args.plant.now.seconds.now c.args.plant.now.signals.now c.requires) c.put.ensures) c.put_field.ensures) c.put_field-2.ensures)
+
+pub put-requires-2 : goal.put-requires-2
+put-requires-2 c = left-room (left-then (left-then (left-then (left-then (none c.args.out.now c.args.plant.now.devices c.args.plant.now.firsts.now c.args.plant.now.seconds.now c.args.plant.now.signals.now c.requires) c.put.ensures) c.put_field.ensures) c.put_field-2.ensures) c.put_rows.ensures)
 
 pub returns : goal.returns
-returns c =
-    let none-here = none c.args.bytes.now c.args.n c.args.firsts.now c.args.seconds.now c.args.signals.now c.requires.room in
-    let one = left-then none-here c.put-after_plant.ensures in
-    let three = left-then (left-then one c.put_field-after_devices.ensures) c.put_field-after_lines.ensures in
-    (left-none (left-then (left-then three c.put_rows-after_rows.ensures) c.put.ensures)).1
+returns c = left-none (left-then (left-then (left-then (left-then (left-then (none c.args.out.now c.args.plant.now.devices c.args.plant.now.firsts.now c.args.plant.now.seconds.now c.args.plant.now.signals.now c.requires) c.put.ensures) c.put_field.ensures) c.put_field-2.ensures) c.put_rows.ensures) c.put-2.ensures)

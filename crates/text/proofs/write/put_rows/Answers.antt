@@ -3,14 +3,11 @@
 use Rattle.text.proofs.Wrote.{rows_all, rows-room, rows_more}
 use Rattle.text.proofs.write.put_rows.Goals as goal
 
-pub put_row-to-requires : goal.put_row-to-requires
-put_row-to-requires c =
-    rows-room c.args.bytes.now c.args.at c.args.firsts.now c.args.seconds.now c.args.signals.now c.requires.lists.0 c.requires.lists.1 c.requires.room c.loop-i.invariant c.loop-i-test.true
+pub put_row-requires : goal.put_row-requires
+put_row-requires c = rows-room c.args.plant.now.accepted.one_length c.args.plant.now.accepted.one_length' c.requires c.loop-i.invariant c.loop-i-test.true
 
 pub loop-i-preserved : goal.loop-i-preserved
-loop-i-preserved c =
-    rows_more c.args.bytes.now c.args.at c.args.firsts.now c.args.seconds.now c.args.signals.now c.requires.lists.0 c.requires.lists.1 c.requires.room c.loop-i.invariant c.loop-i-test.true _ _ c.put_row-to.ensures
+loop-i-preserved c = rows_more c.args.plant.now.accepted.one_length c.args.plant.now.accepted.one_length' c.requires c.loop-i.invariant c.loop-i-test.true c.put_row.ensures
 
 pub returns : goal.returns
-returns c =
-    rows_all c.args.bytes.now c.args.at c.args.firsts.now c.args.seconds.now c.args.signals.now c.requires.lists.0 c.requires.lists.1 c.requires.room c.loop-i.invariant c.loop-i-test.false
+returns c = rows_all c.args.plant.now.accepted.one_length c.args.plant.now.accepted.one_length' c.requires c.loop-i.invariant c.loop-i-test.false

@@ -6,10 +6,10 @@ use Rattle.text.proofs.write.rows_len.Goals as goal
 
 pub loop-i-preserved : goal.loop-i-preserved
 loop-i-preserved c =
-    sum_more c.args.firsts.now c.args.seconds.now c.args.signals.now c.requires.lists.0 c.requires.lists.1 c.loop-i.invariant c.loop-i-test.true c.row_len-sum.ensures
+    sum_more c.args.plant.now.firsts.now c.args.plant.now.seconds.now c.args.plant.now.signals.now c.args.plant.now.accepted.one_length c.args.plant.now.accepted.one_length' c.loop-i.invariant c.loop-i-test.true c.row_len-sum.ensures
 
 pub returns : goal.returns
 returns c = (
-  sum-all c.args.firsts.now c.args.seconds.now c.args.signals.now c.requires.lists.0 c.requires.lists.1 c.loop-i.invariant c.loop-i-test.false,
-  omega (arith, c.loop-i.invariant, c.requires.few),
+  sum-all c.args.plant.now.firsts.now c.args.plant.now.seconds.now c.args.plant.now.signals.now c.args.plant.now.accepted.one_length c.args.plant.now.accepted.one_length' c.loop-i.invariant c.loop-i-test.false,
+  omega (arith, c.loop-i.invariant, c.args.plant.now.accepted.most_lines),
 )

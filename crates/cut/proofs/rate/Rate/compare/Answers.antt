@@ -1,35 +1,37 @@
 -- `cut::rate::Rate::compare` meets its contract: each way out is the definition's answer at the tests that led there.
 -- Assumes nothing.
-use mathlib.Core.Path.{sym, ◌∙◌}
+use Rattle.std.proofs.Common.{ℕ, ap, ◌∙◌, ◌*◌}
 use native.Mathlib.Nat.{lt_of_le_of_lt}
 use lib.Dec.{lit<}
-use borrow.Author.Tests.{lt-ltb, le-ltb, eq-eqb, ne_eqb}
-use Rattle.cut.specs.RateCalls.{order, compared}
-use Rattle.cut.proofs.RateLaws.{cross-most}
+use Rattle.rules.proofs.FaultLaws.{rate-off, rate-on, err-is}
+use Rattle.cut.specs.RateCalls.{order, order_of, compared}
+use Rattle.cut.proofs.RateLaws.{cross-most, order-told}
 use Rattle.cut.proofs.rate.Rate.compare.Goals as goal
 
-pub returns-then-not-accepted : goal.returns-then-not-accepted
+pub returns-in_err-check : goal.returns-in_err-check
 unfolding compared
-returns-then-not-accepted c = simp (sym c.accepted.ensures ∙ c.if-not-accepted.true)
+returns-in_err-check c =
+    let off = rate-off _ _ _ c.in_err-check.ensures.fault in
+    rw (err-is c.from_residual.result c.in_err-check.field-0.0 c.from_residual.ensures.1, off.0, off.1)
 
-pub returns-then-not-accepted-2 : goal.returns-then-not-accepted-2
+pub returns-in_err-check-2 : goal.returns-in_err-check-2
 unfolding compared
-returns-then-not-accepted-2 c = simp ((sym c.accepted.ensures ∙ c.if-not-accepted.false), (sym c.accepted-2.ensures ∙ c.if-not-accepted-2.true))
+returns-in_err-check-2 c =
+    let on = rate-on _ _ c.in_ok-check.ensures.fault in
+    let off = rate-off _ _ _ c.in_err-check-2.ensures.fault in
+    rw (err-is c.from_residual-in_err-check-2.result c.in_err-check-2.field-0.0 c.from_residual-in_err-check-2.ensures.1, on, off.0, off.1)
 
 pub overflow_mul-here : goal.overflow_mul-here
-overflow_mul-here c = record { fits = lt_of_le_of_lt (cross-most _ _ _ _ (sym c.accepted.ensures ∙ c.if-not-accepted.false) (sym c.accepted-2.ensures ∙ c.if-not-accepted-2.false)) (lit< tt) }
+overflow_mul-here c = record { fits = lt_of_le_of_lt (cross-most _ _ _ _ (rate-on _ _ c.in_ok-check.ensures.fault) (rate-on _ _ c.in_ok-check-2.ensures.fault)) (lit< tt) }
 
 pub overflow_mul-there : goal.overflow_mul-there
-overflow_mul-there c = record { fits = lt_of_le_of_lt (cross-most _ _ _ _ (sym c.accepted-2.ensures ∙ c.if-not-accepted-2.false) (sym c.accepted.ensures ∙ c.if-not-accepted.false)) (lit< tt) }
-
-pub returns-then-below : goal.returns-then-below
-unfolding compared order
-returns-then-below c = simp ((sym c.accepted.ensures ∙ c.if-not-accepted.false), (sym c.accepted-2.ensures ∙ c.if-not-accepted-2.false), lt-ltb _ _ c.if-below.true)
-
-pub returns-then-here-there : goal.returns-then-here-there
-unfolding compared order
-returns-then-here-there c = simp ((sym c.accepted.ensures ∙ c.if-not-accepted.false), (sym c.accepted-2.ensures ∙ c.if-not-accepted-2.false), le-ltb _ _ c.if-below.false, eq-eqb _ _ c.if-here-there.true)
+overflow_mul-there c = record { fits = lt_of_le_of_lt (cross-most _ _ _ _ (rate-on _ _ c.in_ok-check-2.ensures.fault) (rate-on _ _ c.in_ok-check.ensures.fault)) (lit< tt) }
 
 pub returns : goal.returns
 unfolding compared order
-returns c = simp ((sym c.accepted.ensures ∙ c.if-not-accepted.false), (sym c.accepted-2.ensures ∙ c.if-not-accepted-2.false), le-ltb _ _ c.if-below.false, ne_eqb _ _ c.if-here-there.false)
+returns c =
+    let on = rate-on _ _ c.in_ok-check.ensures.fault in
+    let on' = rate-on _ _ c.in_ok-check-2.ensures.fault in
+    rw (on, on')
+    (ap (λ (k : ℕ). record { number = 0; place = 0; order = k })
+    (ap order_of c.cmp.ensures ∙ order-told (c.args.self.p * c.args.other.q) (c.args.other.p * c.args.self.q)))

@@ -1,7 +1,0 @@
--- `network::owners::clear_owners` meets its contract. The loop's invariant: the first v entries say nobody. The measure is the number left.
--- Assumes nothing.
-use Rattle.rules.proofs.FillLaws.{filled-done}
-use Rattle.network.proofs.owners.clear_owners.Goals as goal
-
-pub returns : goal.returns
-returns c = filled-done _ _ _ c.loop-v.invariant c.loop-v-test.false
