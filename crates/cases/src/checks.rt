@@ -19,7 +19,8 @@ pub fn written<W: Write>(answer: &mut Answer<W>, numbers: &Numbers) -> io::Resul
 // Three lists of any length, n devices, and the signals of line 1,023, 1 where nothing is said of them. The other lines that are there
 // break no rule on 128 devices.
 pub fn lists<W: Write>(answer: &mut Answer<W>, numbers: &Numbers) -> io::Result<()> {
-    let mut lists = Large::made(Rule::FULL);
+    let mut lists = Large::filled(0);
+    lists.make(Rule::FULL);
     lists.lengths = [numbers.at(0), numbers.at(1), numbers.at(2)];
     lists.devices = numbers.at(3);
     lists.signals[1023] = numbers.at(4).max(1);

@@ -51,12 +51,9 @@ pub fn written<W: Write>(answer: &mut Answer<W>, numbers: &Numbers) -> io::Resul
 // The device, the rate, and a plant made by a rule.
 pub fn made<W: Write>(answer: &mut Answer<W>, numbers: &Numbers) -> io::Result<()> {
     let mut marks = [7u8; DEVICES];
-    marked(
-        answer,
-        numbers,
-        Large::stated(numbers, 3, 0).plant(),
-        &mut marks,
-    )
+    let mut lists = Large::filled(0);
+    lists.state(numbers, 3, 0);
+    marked(answer, numbers, lists.plant(), &mut marks)
 }
 
 // The rate, and a plant that is written out. The owners are 7 before.

@@ -44,6 +44,7 @@ pub fn written<W: Write>(answer: &mut Answer<W>, numbers: &Numbers) -> io::Resul
 // The rate, and a plant made by a rule.
 pub fn made<W: Write>(answer: &mut Answer<W>, numbers: &Numbers) -> io::Result<()> {
     let mut labels = [777; DEVICES];
-    let lists = Large::stated(numbers, 2, 0);
+    let mut lists = Large::filled(0);
+    lists.state(numbers, 2, 0);
     labelled(answer, numbers, lists.plant(), &mut labels, lists.devices)
 }

@@ -78,7 +78,9 @@ fn groups_of(level: &[usize]) -> usize {
 
 // How many entries of a list are filled.
 fn filled_in(list: &[usize]) -> usize {
-    list.iter().filter(|x| **x != BLANK).count()
+    list.iter().fold(0usize, |count, x| {
+        count.wrapping_add(usize::from(*x != BLANK))
+    })
 }
 
 // The hierarchy of any plant: the groups and the low rates of all levels, the row of level k, and how much of each list is filled.
@@ -111,7 +113,8 @@ fn whole<W: Write>(answer: &mut Answer<W>, plant: Plant, k: usize) -> io::Result
 
 // The level whose row is shown, a plant made by a rule, and by how many the signals fall.
 pub fn made<W: Write>(answer: &mut Answer<W>, numbers: &Numbers) -> io::Result<()> {
-    let lists = Large::stated(numbers, 1, numbers.at(7));
+    let mut lists = Large::filled(0);
+    lists.state(numbers, 1, numbers.at(7));
     whole(answer, lists.plant(), numbers.at(0))
 }
 
@@ -158,9 +161,7 @@ pub fn joining<W: Write>(answer: &mut Answer<W>, numbers: &Numbers) -> io::Resul
 
 // The two devices, and a plant made by a rule, as for a hierarchy.
 pub fn joining_made<W: Write>(answer: &mut Answer<W>, numbers: &Numbers) -> io::Result<()> {
-    joined(
-        answer,
-        numbers,
-        Large::stated(numbers, 2, numbers.at(8)).plant(),
-    )
+    let mut lists = Large::filled(0);
+    lists.state(numbers, 2, numbers.at(8));
+    joined(answer, numbers, lists.plant())
 }

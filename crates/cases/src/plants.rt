@@ -34,7 +34,8 @@ pub type Short = Lists<16>;
 pub type Large = Lists<1025>;
 
 impl<const N: usize> Lists<N> {
-    // No devices, and lists all of whose entries are a number.
+    // No devices, and lists all of whose entries are a number. Inlined, so that the lists are not copied on the way back.
+    #[inline(always)]
     pub fn filled(entry: usize) -> Self {
         Lists {
             devices: 0,
@@ -45,63 +46,58 @@ impl<const N: usize> Lists<N> {
         }
     }
 
-    // Lists with lines at their front, as many as there is room for, and 0 after them.
-    fn of<I: Iterator<Item = Line> + Drop>(devices: usize, lines: I) -> Self
+    // Lines at the front of the lists, as many as there is room for, of so many devices. The lists are filled where they stand.
+    fn put<I: Iterator<Item = Line> + Drop>(&mut self, devices: usize, lines: I)
         requires { I.can_next lines }
     {
-        let mut lists = Lists::filled(0);
-        lists.devices = devices;
-        let ends = lists.firsts.iter_mut().zip(&mut lists.seconds);
-        for (((first, second), signals), line) in ends.zip(&mut lists.signals).zip(lines) {
-            *first = line.a;
-            *second = line.b;
-            *signals = line.signals;
+        self.devices = devices;
+        for (i, line) in lines.take(N).enumerate() {
+            self.firsts[i] = line.a;
+            self.seconds[i] = line.b;
+            self.signals[i] = line.signals;
         }
-        lists
     }
 
     // The plant that a case has from a number on: the devices, and then the two ends and the signals of each line.
     // Where the case ends before that number, all N lines count.
-    pub fn written(numbers: &Numbers, from: usize) -> Self
-        requires { from < 64 }
-    {
-        let (rows, _) = numbers.tail(from + 1).as_chunks::<3>();
+    pub fn written(numbers: &Numbers, from: usize) -> Self {
+        let (rows, _) = numbers.tail(from.saturating_add(1)).as_chunks::<3>();
         let lines = rows.iter().map(|&[a, b, signals]| Line { a, b, signals });
-        let mut lists = Lists::of(numbers.at(from), lines);
+        let mut lists = Lists::filled(0);
+        lists.put(numbers.at(from), lines);
         lists.lengths = [numbers.count_from(from).map_or(N, |count| count / 3); 3];
         lists
     }
 
     // The plant that a case states from a number on: the reach and the devices of a rule, the lengths of the three lists, and the
     // signals of the first line. Whether they fall does not stand there in each kind of case.
-    pub fn stated(numbers: &Numbers, from: usize, fall: usize) -> Self
+    pub fn state(&mut self, numbers: &Numbers, from: usize, fall: usize)
         requires { from < 59 }
     {
-        let mut lists = Lists::made(Rule {
+        self.make(Rule {
             shape: Shape::from(numbers.at(from)),
             devices: numbers.at(from + 1),
             signals: numbers.at(from + 5),
             fall,
         });
-        lists.lengths = [
+        self.lengths = [
             numbers.at(from + 2),
             numbers.at(from + 3),
             numbers.at(from + 4),
         ];
-        lists
     }
 
     // Lines by a rule until the lists are full, in rising order.
-    pub fn made(rule: Rule) -> Self {
+    pub fn make(&mut self, rule: Rule) {
         let first = Line {
             a: 0,
             b: 1,
             signals: rule.signals,
         };
-        Lists::of(
+        self.put(
             rule.devices,
             iter::successors(Some(first), |line| Some(rule.after(*line))),
-        )
+        );
     }
 
     // Reads a plant text into the lists.

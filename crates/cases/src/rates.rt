@@ -1,6 +1,4 @@
 // Comparison and reduction of rates.
-ghost use Rattle.std.specs.Prelude.{◌<◌};
-
 use crate::print::Answer;
 use crate::row::Numbers;
 use cut::rate::Rate;
@@ -10,12 +8,10 @@ use std::io;
 use std::io::Write;
 
 // The rate that a case has from a number on.
-pub fn rate_at(numbers: &Numbers, from: usize) -> Rate
-    requires { from < 64 }
-{
+pub fn rate_at(numbers: &Numbers, from: usize) -> Rate {
     Rate {
         p: numbers.at(from),
-        q: numbers.at(from + 1),
+        q: numbers.at(from.saturating_add(1)),
     }
 }
 

@@ -89,7 +89,8 @@ pub fn long<W: Write>(answer: &mut Answer<W>, case: &Case) -> io::Result<()> {
 // A plant made by a rule, written and read back: reach, devices, lines, the signals of each line. Answers what reading does, and whether
 // it is written back as it was.
 pub fn full<W: Write>(answer: &mut Answer<W>, numbers: &Numbers) -> io::Result<()> {
-    let mut lists = Lists::<LINES>::made(Rule {
+    let mut lists = Lists::<LINES>::filled(0);
+    lists.make(Rule {
         shape: Shape::from(numbers.at(0)),
         devices: numbers.at(1),
         signals: numbers.at(3),
@@ -104,7 +105,8 @@ pub fn full<W: Write>(answer: &mut Answer<W>, numbers: &Numbers) -> io::Result<(
 
 // The text of 1,024 lines with one row more, and another stated number of lines of four digits.
 pub fn surplus<W: Write>(answer: &mut Answer<W>, case: &Case) -> io::Result<()> {
-    let lists = Lists::<LINES>::made(Rule::FULL);
+    let mut lists = Lists::<LINES>::filled(0);
+    lists.make(Rule::FULL);
     let mut bytes = [0; 32768];
     let count = write_to(lists.plant(), &mut bytes).unwrap_or(0);
     let mut put = |row: &[u8], at: usize| {

@@ -26,7 +26,8 @@ use Rattle.std.specs.Prelude.{Err}
 use Rattle.rules.specs.Faults.{refusal_of}
 use Rattle.rules.specs.declared.Fault.{Fault}
 use Rattle.rules.proofs.FaultLaws.{fault-some}
-use Rattle.cut.specs.Calls.{community_told, marks_of, community_fault, community_answer, community_marks, owners_fault, owners_of, owners_after}
+use Rattle.rules.specs.Refusal.{Refusal}
+use Rattle.cut.specs.Calls.{Answer, community_told, marks_of, community_fault, community_answer, community_marks, owners_fault, owners_of, owners_after}
 use Rattle.cut.proofs.CheckLaws.{at}
 use Rattle.rules.proofs.FillLaws.{over_agree, over-front, over-copied}
 use Rattle.cut.proofs.SetLaws.{marks-size, marks-out, all_wanted, only-wanted}
@@ -62,13 +63,21 @@ module _ (n : ℕ) (xs ys zs : List ℕ) (p q d room : ℕ) where
 
 -- what the community call answers and leaves, refused and accepted
 module _ (n : ℕ) (xs ys zs : List ℕ) (p q d : ℕ) (marks : List ℕ) where
-  pub community-refused : (f : Fault) → community_fault n xs ys zs p q d (length marks) ≡ refusal_of f → community_told (Err f) ≡ community_answer n xs ys zs p q d marks
+  -- of every refusal, and of those that the call answers
+  pub refused-answer : (r : Refusal) → community_fault n xs ys zs p q d (length marks) ≡ r → (r.number ≡ 0 → ⊥)
+      → ◌≡◌ {A = Answer} (record { number = r.number; place = r.place; size = 0; out = 0 }) (community_answer n xs ys zs p q d marks)
   unfolding community_answer
-  community-refused f e = rw (e, ne_eqb (refusal_of f).number 0 (fault-some f))
+  refused-answer r e h = rw (e, ne_eqb r.number 0 h)
+
+  pub refused-marks : (r : Refusal) → community_fault n xs ys zs p q d (length marks) ≡ r → (r.number ≡ 0 → ⊥) → marks ≡ community_marks n xs ys zs p q d marks
+  unfolding community_marks
+  refused-marks r e h = rw (e, ne_eqb r.number 0 h)
+
+  pub community-refused : (f : Fault) → community_fault n xs ys zs p q d (length marks) ≡ refusal_of f → community_told (Err f) ≡ community_answer n xs ys zs p q d marks
+  community-refused f e = refused-answer (refusal_of f) e (fault-some f)
 
   pub community-kept : (f : Fault) → community_fault n xs ys zs p q d (length marks) ≡ refusal_of f → marks ≡ community_marks n xs ys zs p q d marks
-  unfolding community_marks
-  community-kept f e = rw (e, ne_eqb (refusal_of f).number 0 (fault-some f))
+  community-kept f e = refused-marks (refusal_of f) e (fault-some f)
 
   pub community-answered : community_fault n xs ys zs p q d (length marks) ≡ at 0 0
       → community_answer n xs ys zs p q d marks
@@ -105,9 +114,12 @@ module _ (n : ℕ) (xs ys zs : List ℕ) (p q room : ℕ) where
       owners-0 h = owners-fault-is ∙ call-rest n xs ys zs _ good ∙ simp (on, le-ltb _ _ h)
 
 module _ (n : ℕ) (xs ys zs : List ℕ) (p q : ℕ) (owner : List ℕ) where
-  pub owners-kept : (f : Fault) → owners_fault n xs ys zs p q (length owner) ≡ refusal_of f → owner ≡ owners_after n xs ys zs p q owner
+  pub refused-owners : (r : Refusal) → owners_fault n xs ys zs p q (length owner) ≡ r → (r.number ≡ 0 → ⊥) → owner ≡ owners_after n xs ys zs p q owner
   unfolding owners_after
-  owners-kept f e = rw (e, ne_eqb (refusal_of f).number 0 (fault-some f))
+  refused-owners r e h = rw (e, ne_eqb r.number 0 h)
+
+  pub owners-kept : (f : Fault) → owners_fault n xs ys zs p q (length owner) ≡ refusal_of f → owner ≡ owners_after n xs ys zs p q owner
+  owners-kept f e = refused-owners (refusal_of f) e (fault-some f)
 
   -- every device is wanted
   pub owners-found : n ≤ 128 → (old : List ℕ)

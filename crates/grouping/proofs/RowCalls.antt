@@ -46,11 +46,11 @@ module _ (labels : List ℕ) (n levels k : ℕ) where
   pub row-devices : (f : Fault) → refusal_of f ≡ devices_fault n → refusal_of f ≡ row_fault labels n levels k
   row-devices f e = first-fault f _ e ∙ sym row_is
 
-  row-1 : n ≡ 0 → row_fault labels n levels k ≡ record { number = 1; place = 0 }
+  pub row-1 : n ≡ 0 → row_fault labels n levels k ≡ record { number = 1; place = 0 }
   unfolding first_of or_else cause done devices_fault
   row-1 e = row_is ∙ rw (eq-eqb n 0 e)
 
-  row-2 : 128 < n → row_fault labels n levels k ≡ record { number = 2; place = 0 }
+  pub row-2 : 128 < n → row_fault labels n levels k ≡ record { number = 2; place = 0 }
   unfolding first_of or_else cause done devices_fault
   row-2 h = row_is ∙ rw (ne_eqb n 0 (λ e. omega arith), lt-ltb 128 n h)
 

@@ -1,15 +1,17 @@
--- The row of a level in the label list: kept where its entries are, and written over by a level; entries that fillings leave alone.
+-- The row of a level in the label list: entry by entry, kept where its entries are, and written entry by entry or over by a level; entries that fillings leave alone.
 -- Assumes nothing.
 use Prim.Native.Nat.{ℕ, suc, ◌+◌, ◌-◌, ◌*◌, ◌≤◌, ◌<◌}
 use mathlib.Core.Path.{◌≡◌, refl, sym, ap, subst, ◌∙◌}
 use mathlib.Core.List.{List}
-use native.Mathlib.Nat.{mul-le-mul_right, suc-mul, min-le_left, add-sub_cancel_left}
+use native.Mathlib.Nat.{mul-le-mul_right, suc-mul, min-le_left, le-add_right, add-sub_cancel_left}
 use native.Mathlib.Omega.{arith}
 use lib.ListN.{length, get_or, set, take, drop, length-set, length-take, length-drop}
-use lib.Seq.{ext_get_or, get_or-take, get_or-drop, get_or-set_other, length-take-le}
+use lib.Seq.{ext_get_or, get_or-take, get_or-drop, get_or-set_same, get_or-set_other, length-take-le}
+use borrow.Author.Count.{below_more}
 use borrow.Rule.Slice.PartMut.{put_mid}
 use Rattle.std.proofs.lemmas.Slice.{between-put_mid}
 use Rattle.rules.specs.Groups.{table}
+use Rattle.rules.proofs.LabelLaws.{length-table, get_or-table, table-agree}
 use Rattle.rules.proofs.FillLaws.{take-table}
 use Rattle.grouping.specs.Calls.{row_of}
 use Rattle.grouping.specs.Stretch.{KeptOutside}
@@ -47,6 +49,11 @@ module _ (n k : ℕ) where
   unfolding row_of
   row_below labels v h = omega (arith, rw length-take at h, min-le_left n (length (drop (k * n) labels)))
 
+  -- the row, entry by entry
+  pub row-table : (labels : List ℕ) → k * n + n ≤ length labels → row_of n labels k ≡ table n (λ v. get_or labels (k * n + v) 0)
+  row-table labels h =
+      ext_get_or 0 _ _ (row-length labels h ∙ sym (length-table n _)) (λ v l. let b = row_below labels v l in row_at labels v b ∙ sym (get_or-table n _ v b))
+
   -- two lists of one length that agree on the entries of the row
   pub row_kept : (old new : List ℕ) → length new ≡ length old → ((j : ℕ) → k * n ≤ j → j < k * n + n → get_or new j 0 ≡ get_or old j 0)
       → row_of n new k ≡ row_of n old k
@@ -63,3 +70,35 @@ module _ (n k : ℕ) where
       (between-put_mid (k * n) (k * n + n - k * n) labels ys (k * n + n) (omega arith) (omega (arith, ap length e, length-take-le n level l)))
       ∙ e
       ∙ take-table n (λ v. get_or level v 0) level l (λ v b. refl)
+
+-- the entries from `start` on are f's, v of them so far; the rest is as it was
+pub record Put (start : ℕ) (f : ℕ → ℕ) (old new : List ℕ) (v : ℕ) : Type 0 where
+  pub kept : KeptOutside start (start + v) old new
+  pub row : (u : ℕ) → u < v → get_or new (start + u) 0 ≡ f u
+
+pub put-none : (start : ℕ) (f : ℕ → ℕ) (old : List ℕ) → Put start f old old 0
+put-none start f old = record {
+  kept = record { length_same = refl; before = λ j h. refl; past = λ j h. refl };
+  row = λ u h. absurd (omega arith);
+}
+
+module _ (start : ℕ) (f : ℕ → ℕ) (old new : List ℕ) (v : ℕ) (now : Put start f old new v) where
+  -- one entry is stored
+  pub put-more : start + v < length old → Put start f old (set new (start + v) (f v)) (v + 1)
+  put-more h = record {
+    kept = kept-join (le-add_right start v) (omega arith) now.kept (rw next (kept_set (start + v) (f v) new));
+    row = below_more (λ u. get_or (set new (start + v) (f v)) (start + u) 0 ≡ f u) v
+        (λ u l. get_or-set_other new (start + v) (start + u) (f v) 0 (λ e. omega arith) ∙ now.row u l)
+        (get_or-set_same new (start + v) (f v) 0 (omega (arith, now.kept.length_same)));
+  }
+    where
+      next : start + (v + 1) ≡ suc (start + v)
+      next = omega arith
+
+-- the whole row is stored
+pub put_all : (n k : ℕ) (f : ℕ → ℕ) (old new : List ℕ) (v : ℕ) → Put (k * n) f old new v → v ≡ n → k * n + n ≤ length old
+    → KeptOutside (k * n) (k * n + n) old new × (row_of n new k ≡ table n f)
+put_all n k f old new v now e h = (
+  rw e at now.kept,
+  row-table n k new (omega (arith, now.kept.length_same)) ∙ table-agree n _ f (λ u l. now.row u (omega arith)),
+)

@@ -6,7 +6,7 @@ ghost use Rattle.cut.specs.Stated.{stated};
 ghost use Rattle.grouping.specs.Level.{owns_itself, Between, Swept};
 
 use crate::drains::drains_of;
-use crate::join::join_lines;
+use crate::join::{Lines, join_lines};
 use crate::nodes::Nodes;
 use cut::plant::Plant;
 use cut::rate::AcceptedRate;
@@ -47,7 +47,8 @@ pub fn owners_between(
     ensures { Swept (stated plant.now) rate.p rate.q result }
 {
     let nodes = Nodes { plant, node, wall };
-    let lines = join_lines(&nodes, rate);
+    let mut lines = Lines::new();
+    join_lines(&nodes, rate, &mut lines);
     let drains = drains_of(&nodes, rate);
     let wanted = marked(plant.devices, node);
     let mut held = [0usize; DEVICES];

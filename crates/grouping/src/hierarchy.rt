@@ -20,14 +20,16 @@ struct Lent<'a> {
     low_q: &'a mut [usize],
 }
 
-// Row k of the labels becomes a level.
+// Row k of the labels becomes a level. Entry by entry, and no `copy_from_slice`: with that the archive for C would need C's memmove too.
 fn put_row(n: usize, level: &[usize; DEVICES], k: usize, labels: &mut [usize])
     requires { (n ≤ 128) × (k < n) × (n * n ≤ length labels.old) }
     ensures kept_outside { KeptOutside (k * n) (k * n + n) labels.old labels.new }
     ensures row_filled { row_of n labels.new k ≡ table n (λ v. get_or level.now v 0) }
 {
     let start = k * n;
-    labels[start..start + n].copy_from_slice(&level[..n]);
+    for v in 0..n {
+        labels[start + v] = level[v];
+    }
 }
 
 impl Lent<'_> {

@@ -18,6 +18,16 @@ pub struct Lines {
 }
 
 impl Lines {
+    // No lines.
+    pub fn new() -> Lines {
+        Lines {
+            lower: [0; LINES],
+            upper: [0; LINES],
+            widths: [0; LINES],
+            count: 0,
+        }
+    }
+
     // A line between the nodes x and y, of which x is the lower one, is added: to the last line where that joins the same two nodes, and
     // otherwise as one more.
     fn put_rising(&mut self, width: usize, x: usize, y: usize)
@@ -78,18 +88,13 @@ fn join_line(nodes: &Nodes, rate: AcceptedRate, l: usize, lines: &mut Lines)
     }
 }
 
-// The lines of the network.
-pub fn join_lines(nodes: &Nodes, rate: AcceptedRate) -> Lines
-    ensures { Joined nodes.now.plant.now.devices nodes.now.plant.now.firsts.now nodes.now.plant.now.seconds.now nodes.now.plant.now.signals.now rate.q nodes.now.node.now nodes.now.wall.now (length nodes.now.plant.now.firsts.now) result.lower result.upper result.widths result.count }
+// The lines of the network, in the place of those that stood there. They are filled where they stand: lists handed back by value would be
+// copied.
+pub fn join_lines(nodes: &Nodes, rate: AcceptedRate, lines: &mut Lines)
+    ensures { Joined nodes.now.plant.now.devices nodes.now.plant.now.firsts.now nodes.now.plant.now.seconds.now nodes.now.plant.now.signals.now rate.q nodes.now.node.now nodes.now.wall.now (length nodes.now.plant.now.firsts.now) lines.new.lower lines.new.upper lines.new.widths lines.new.count }
 {
-    let mut lines = Lines {
-        lower: [0; LINES],
-        upper: [0; LINES],
-        widths: [0; LINES],
-        count: 0,
-    };
+    lines.count = 0;
     for l in 0..nodes.plant.firsts.len() {
-        join_line(nodes, rate, l, &mut lines);
+        join_line(nodes, rate, l, lines);
     }
-    lines
 }

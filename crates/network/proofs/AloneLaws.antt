@@ -1,4 +1,4 @@
--- A node that no line touches is its own least set: it alone costs its drain, and every set that holds it costs at least that.
+-- A node that no line touches is its own least set: it alone costs its drain, and every set that holds it costs at least that; and the owners where no node has a line (owners-alone).
 -- Assumes nothing.
 use Prim.Native.Nat.{ℕ, zero, suc, ◌≤◌, ◌<◌, zero-le}
 use mathlib.Core.Path.{◌≡◌, refl, sym, ◌∙◌}
@@ -15,9 +15,11 @@ use Rattle.rules.specs.Cut.{Devices, crossing, out}
 use Rattle.rules.specs.Groups.{table}
 use Rattle.rules.specs.Lists.{over}
 use Rattle.rules.specs.Network.{drained, net_cost, IsLeast}
-use Rattle.rules.proofs.FillLaws.{over-front, over-rest, over-size}
+use Rattle.rules.specs.Sweep.{sweep, wanted_in}
+use Rattle.rules.proofs.FillLaws.{over_agree, over-front, over-rest, over-size}
+use Rattle.rules.proofs.Sweep.{sweep-takes, sweep-passes}
 use Rattle.rules.proofs.SumLaws.{zero-sum, out-sum}
-use Rattle.network.specs.Calls.{Network}
+use Rattle.network.specs.Calls.{Network, OwnersOf}
 use Rattle.network.specs.Search.{touches, Before}
 
 -- the set of x alone
@@ -71,3 +73,40 @@ alone-painted k x owner b room =
     at v (yes e) d = rw e (get_or-set_same owner x x 0 (omega arith) ∙ sym (over-front k f owner x b ∙ rw (eq-eqb x x refl)))
     at v (no ne) (yes c) = get_or-set_other owner x v x 0 ne ∙ sym (over-front k f owner v c ∙ rw (ne_eqb v x ne))
     at v (no ne) (no c) = get_or-set_other owner x v x 0 ne ∙ sym (over-rest k f owner v (omega arith))
+
+-- where each set is its node alone, each wanted node owns itself and nobody owns another
+module _ (wanted : ℕ → Bool) (nobody : ℕ) where
+  other-turn : (j v : ℕ) (b : Bool) → wanted j ≡ b → sweep alone wanted nobody j j ≡ nobody → (v ≡ j → ⊥)
+      → sweep alone wanted nobody (suc j) v ≡ sweep alone wanted nobody j v
+  other-turn j v true e z n = sweep-takes alone wanted nobody j e z v ∙ rw (ne_eqb v j n)
+  other-turn j v false e z n = sweep-passes alone wanted nobody j e v
+
+  own-turn : (j : ℕ) (b : Bool) → wanted j ≡ b → sweep alone wanted nobody j j ≡ nobody → sweep alone wanted nobody (suc j) j ≡ cond b j nobody
+  own-turn j true e z = sweep-takes alone wanted nobody j e z j ∙ rw (eq-eqb j j refl)
+  own-turn j false e z = sweep-passes alone wanted nobody j e j ∙ z
+
+  -- nobody owns a node before its turn
+  before-turn : (j v : ℕ) → j ≤ v → sweep alone wanted nobody j v ≡ nobody
+  unfolding sweep
+  before-turn zero v h = refl
+  before-turn (suc j) v h = other-turn j v (wanted j) refl (before-turn j j (omega arith)) (λ s. omega arith) ∙ before-turn j v (omega arith)
+
+  after-turn : (j v : ℕ) → v < j → sweep alone wanted nobody j v ≡ cond (wanted v) v nobody
+  after-turn zero v h = absurd (omega arith)
+  after-turn (suc j) v h =
+      elim (ℕ_discrete v j) [
+        | yes s ↦ rw s (own-turn j (wanted j) refl (before-turn j j (omega arith)))
+        | no n ↦ other-turn j v (wanted j) refl (before-turn j j (omega arith)) n ∙ after-turn j v (omega arith)
+      ]
+
+no-line : {xs ys : List ℕ} (x : ℕ) → length xs ≡ 0 → Before xs ys x (length xs) 0
+no-line x none = record { at_most = zero-le; real = λ l e. absurd (omega arith); gap = λ l b h. absurd (omega arith) }
+
+-- the owners of the nodes of a network without a line
+pub owners-alone : {k : ℕ} {xs ys zs ds wanted owner owner' : List ℕ} → Network k xs ys zs ds → length xs ≡ 0
+    → owner' ≡ over (table k (λ v. cond (wanted_in wanted v) v k)) owner → OwnersOf k xs ys zs ds wanted owner owner'
+owners-alone {k} {wanted = wanted} {owner} network none e = record {
+  sets = alone;
+  least = λ x b s. alone-least network x (no-line x none);
+  filled = e ∙ over_agree k _ _ owner (λ v h. sym (after-turn (wanted_in wanted) k k v h));
+}

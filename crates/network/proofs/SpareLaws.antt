@@ -2,7 +2,7 @@
 --     spares-start, spares-sent      so it is at the start, and so it stays when some is sent
 --     drains-less                    what is sent leaves the drains with less
 --     way-all, nodes-below           what holds of every node in the queue
---     spares-done                    where nothing more can be sent, the marked nodes are the least set
+--     spares-done, spares-marks      where nothing more can be sent, the marked nodes are the least set, and all others are marked 0
 -- Assumes nothing.
 use Prim.Native.Nat.{ℕ, zero, suc, ◌+◌, ◌-◌, ◌≤◌, ◌<◌, zero-le, suc-le-suc}
 use mathlib.Core.Path.{◌≡◌, refl, sym, ap, ◌∙◌}
@@ -232,3 +232,10 @@ module _ {n : ℕ} {xs ys zs ds : List ℕ} {d : ℕ} {fs rs ws : List ℕ} {nod
     least = λ T t. omega (arith, marked-cost, spares.share T t);
     inside = λ T t l. marked-least T t (omega (arith, marked-cost, spares.share T t));
   }
+
+  pub spares-marks : (v : ℕ) → v < n → get_or marks v 0 ≡ cond (eqb (get_or marks v 0) 1) 1 0
+  spares-marks v b = go (scan.covered.tree.listed v (le_trans b few))
+    where
+      go : (get_or marks v 0 ≡ 0) ⊎ ((j : ℕ) × (j < count) × (get_or nodes j 0 ≡ v)) → get_or marks v 0 ≡ cond (eqb (get_or marks v 0) 1) 1 0
+      go (inl z) = rw z
+      go (inr r) = rw (rw r.2 at (scan.covered.tree.marked r.0 r.1))

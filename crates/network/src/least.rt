@@ -1,5 +1,5 @@
 // The least set of a network that holds its start: ways are sent along until none is left, and what can then be reached is the set.
-ghost use Rattle.std.specs.Prelude.{◌≡◌, true, false, List, eqb, get_or, ℕ, ◌≤◌, ◌<◌, IfSome, IfNone};
+ghost use Rattle.std.specs.Prelude.{◌≡◌, true, false, List, cond, eqb, get_or, ℕ, ◌≤◌, ◌<◌, IfSome, IfNone};
 ghost use Rattle.rules.specs.Numbers.{sum};
 ghost use Rattle.network.specs.Search.{Marks, Scan};
 ghost use Rattle.network.specs.Parts.{Stands, Finds, Ends, Sends, Least};
@@ -57,10 +57,12 @@ fn round(lines: &Lines, spare: &mut Spare, queue: &mut Queue) -> bool
     true
 }
 
-// Marks 1 the nodes of the least set that holds the start. What can go and the queue are lent, as any other search left them.
+// Marks 1 the nodes of the least set that holds the start, and 0 the others. What can go and the queue are lent, as any other search left
+// them.
 pub fn least(lines: &Lines, start: usize, spare: &mut Spare, queue: &mut Queue)
     requires { start < lines.now.network.nodes }
-    ensures { Least lines.now.network start (λ v. eqb (get_or queue.new.mark v 0) 1) }
+    ensures least_set { Least lines.now.network start (λ v. eqb (get_or queue.new.mark v 0) 1) }
+    ensures marks { (v : ℕ) → v < lines.now.network.nodes → get_or queue.new.mark v 0 ≡ cond (eqb (get_or queue.new.mark v 0) 1) 1 0 }
 {
     spare.fill(&lines.network, start);
     queue.begin(lines, start);

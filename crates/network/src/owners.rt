@@ -3,6 +3,7 @@ ghost use Rattle.std.specs.Prelude.{◌≡◌, cond, eqb, length, get_or, ◌≤
 ghost use Rattle.rules.specs.Cut.{Devices};
 ghost use Rattle.rules.specs.Groups.{table};
 ghost use Rattle.rules.specs.Lists.{over};
+ghost use Rattle.rules.specs.Sweep.{wanted_in};
 ghost use Rattle.network.specs.Calls.{OwnersOf};
 ghost use Rattle.network.specs.Parts.{Least};
 
@@ -41,8 +42,18 @@ fn take_over(lines: &Lines, x: usize, spare: &mut Spare, queue: &mut Queue, owne
     paint_owners(lines.network.nodes, x, &queue.mark, owner);
 }
 
-// The owners of the nodes of a network.
-pub fn fill_owners(network: &Network, wanted: &[u8], owner: &mut [usize])
+// Where no node has a line each wanted one is its own, and nothing is made for a search.
+fn own_alone(k: usize, wanted: &[u8], owner: &mut [usize])
+    requires { (k ≤ length wanted.now) × (k ≤ length owner.old) }
+    ensures { owner.new ≡ over (table k (λ v. cond (wanted_in wanted.now v) v k)) owner.old }
+{
+    for x in 0..k {
+        owner[x] = if wanted[x] != 0 { x } else { k };
+    }
+}
+
+// Node by node, with what a search needs, which is lent from search to search.
+fn own_searched(network: &Network, wanted: &[u8], owner: &mut [usize])
     requires { (network.now.nodes ≤ length wanted.now) × (network.now.nodes ≤ length owner.old) }
     ensures { OwnersOf network.now.nodes network.now.firsts.now network.now.seconds.now network.now.widths.now network.now.drains.now wanted.now owner.old owner.new }
 {
@@ -55,5 +66,17 @@ pub fn fill_owners(network: &Network, wanted: &[u8], owner: &mut [usize])
         if wanted[x] != 0 && owner[x] == k {
             take_over(&lines, x, &mut spare, &mut queue, owner);
         }
+    }
+}
+
+// The owners of the nodes of a network.
+pub fn fill_owners(network: &Network, wanted: &[u8], owner: &mut [usize])
+    requires { (network.now.nodes ≤ length wanted.now) × (network.now.nodes ≤ length owner.old) }
+    ensures { OwnersOf network.now.nodes network.now.firsts.now network.now.seconds.now network.now.widths.now network.now.drains.now wanted.now owner.old owner.new }
+{
+    if network.firsts.is_empty() {
+        own_alone(network.nodes, wanted, owner);
+    } else {
+        own_searched(network, wanted, owner);
     }
 }

@@ -7,7 +7,7 @@ use mathlib.Core.Path.{◌≡◌, refl, sym, ap, ◌∙◌}
 use mathlib.Core.Bool.{Bool, true, false, not, ◌&&◌, cond, true≢false}
 use mathlib.Core.List.{List, [], ◌∷◌}
 use lib.Dec.{leb, eqb}
-use lib.ListN.{length, get_or, take, drop}
+use lib.ListN.{length, length-drop, get_or, take, drop}
 use lib.Seq.{drop-drop}
 use borrow.Author.Tests.{leb-true}
 use Rattle.std.specs.Prelude.{None, Some}
@@ -15,7 +15,7 @@ use Rattle.std.specs.Bool.{then_some}
 use Rattle.std.proofs.lemmas.Option.{none-some, same_Some}
 use Rattle.text.proofs.Steps.{both_right, Read}
 use Rattle.text.specs.Numbers.{Number, is_digit, run, value_of, no_number, well_formed, number_from, number_of}
-use Rattle.text.specs.Lines.{begins, newline, comma, line_key, field_rest, field, row_of, row_second, row_first, row}
+use Rattle.text.specs.Lines.{Row, begins, newline, comma, line_key, field_rest, field, row_of, row_second, row_first, row}
 use Rattle.text.specs.Told.{told_number, told_word, told_row}
 
 -- one of two, by a test
@@ -201,3 +201,61 @@ field-small key stop l =
 
     small : Number → Type 0
     small n = n.value < 1000000000
+
+-- what a number, a field and a row use of a text lies inside it
+pub number_fits : (l : List ℕ) → (number_of l).used ≤ length l
+unfolding number_of number_from
+number_fits l = by_cond (λ (v : Number). v.used ≤ length l) (well_formed (run 9 l)) (λ e. run_fits 9 l) (λ e. zero-le)
+
+pub field_fits : (key stop l : List ℕ) → (field key stop l).used ≤ length l
+unfolding field field_rest
+field_fits key stop l =
+    by_cond within (begins key l) (λ e. by_cond within (v.ok && begins stop end) (λ h. all e (both_right v.ok (begins stop end) h)) (λ h. zero-le)) (λ e. zero-le)
+  where
+    v : Number
+    v = number_of (drop (length key) l)
+
+    end : List ℕ
+    end = drop (length key + v.used) l
+
+    within : Number → Type 0
+    within n = n.used ≤ length l
+
+    all : begins key l ≡ true → begins stop end ≡ true → length key + v.used + length stop ≤ length l
+    all e h =
+        omega (
+          arith,
+          begins-fits key l e,
+          length-drop (length key) l,
+          number_fits (drop (length key) l),
+          length-drop (length key + v.used) l,
+          begins-fits stop end h,
+        )
+
+pub row_fits : (l : List ℕ) → (row l).used ≤ length l
+unfolding row row_first row_second row_of
+row_fits l =
+    by_cond within a.ok (λ p. by_cond within b.ok (λ q. by_cond within s.ok (λ r. all) (λ r. zero-le)) (λ q. zero-le)) (λ p. zero-le)
+  where
+    within : Row → Type 0
+    within r = r.used ≤ length l
+
+    a : Number
+    a = field line_key comma l
+
+    b : Number
+    b = field [] comma (drop a.used l)
+
+    s : Number
+    s = field [] newline (drop (a.used + b.used) l)
+
+    all : a.used + b.used + s.used ≤ length l
+    all =
+        omega (
+          arith,
+          field_fits line_key comma l,
+          field_fits [] comma (drop a.used l),
+          length-drop a.used l,
+          field_fits [] newline (drop (a.used + b.used) l),
+          length-drop (a.used + b.used) l,
+        )

@@ -20,7 +20,7 @@ use Rattle.text.specs.Numbers.{Number, no_number}
 use Rattle.text.specs.Lines.{plant_line, devices_key, lines_key, end_line, newline, begins, field, row}
 use Rattle.text.specs.Form.{Form, good_rows, used_rows, end_fault_of, rows_fault_of, wrong_line_of, form_lines, form_devices, form}
 use Rattle.text.specs.Told.{told_number, told_word, told_row, told_fault, told_form}
-use Rattle.text.proofs.Fields.{by_cond, then-none, then-is, begins-fits, field-small}
+use Rattle.text.proofs.Fields.{by_cond, then-none, then-is, begins-fits, field-small, field_fits, row_fits}
 
 -- what an answer says of the answer that it was made of
 pub or-err : {A : Type 0} (o : Option A) (k x : ℕ) → Err x ≡ ok_or o k → (None ≡ o) × (x ≡ k)
@@ -128,6 +128,18 @@ unfolding good_rows
 rows-most zero l = zero-le
 rows-most (suc m) l = by_cond (λ (k : ℕ). k ≤ suc m) (row l).ok (λ e. suc-le-suc (rows-most m (drop (row l).used l))) (λ e. zero-le)
 
+pub rows_fit : (m : ℕ) (l : List ℕ) → used_rows m l ≤ length l
+unfolding used_rows
+rows_fit zero l = zero-le
+rows_fit (suc m) l =
+    by_cond
+    (λ (k : ℕ). k ≤ length l)
+    (row l).ok
+    (λ e.
+    let h : used_rows m (drop (row l).used l) ≤ length (drop (row l).used l) = rows_fit m (drop (row l).used l) in
+    omega (arith, row_fits l, length-drop (row l).used l))
+    (λ e. zero-le)
+
 -- the form of a text, by what was found of it: l₁ is what follows plant=1, l₂ what follows the devices, and l₃ what follows the lines
 module _ (t : List ℕ) where
   pub form-no-plant : None ≡ told_word (begins plant_line t) → wrong_line_of 1 ≡ form t
@@ -227,3 +239,30 @@ stated_none t {k} e = go (eqb (form t).line 0) refl
         let z : ◌≡◌ {A = Result Stated ℕ} (Err k) (Err (form t).line) = e ∙ rw h refl in
         let same : k ≡ (form t).line = cc in
         (sym same, λ k-is. eqb-false _ _ h (sym same ∙ k-is))
+
+-- what is used of a text before its rows lies inside it
+pub form-within : (t : List ℕ) → (form t).at ≤ length t
+unfolding form form_devices form_lines
+form-within t =
+    by_cond within (begins plant_line t) (λ e. by_cond within n.ok (λ o. by_cond within m.ok (λ q. all e) (λ q. zero-le)) (λ o. zero-le)) (λ e. zero-le)
+  where
+    n : Number
+    n = field devices_key newline (drop 8 t)
+
+    m : Number
+    m = field lines_key newline (drop (8 + n.used) t)
+
+    within : Form → Type 0
+    within f = f.at ≤ length t
+
+    all : begins plant_line t ≡ true → 8 + n.used + m.used ≤ length t
+    all e =
+        let plant : 8 ≤ length t = begins-fits plant_line t e in
+        omega (
+          arith,
+          plant,
+          length-drop 8 t,
+          field_fits devices_key newline (drop 8 t),
+          length-drop (8 + n.used) t,
+          field_fits lines_key newline (drop (8 + n.used) t),
+        )

@@ -11,5 +11,5 @@ invariant_of-nodes c = record { below = between-nodes _ _ _ _ c.requires }
 pub returns : goal.returns
 returns c =
     let lists = c.lists.ensures in
-    between-swept c.args.plant.now.accepted (rate-taken c.args.rate) c.requires c.join_lines-lines.ensures c.drains_of-drains.ensures lists.lower lists.upper lists.widths
+    between-swept c.args.plant.now.accepted (rate-taken c.args.rate) c.requires c.join_lines.ensures c.drains_of-drains.ensures lists.lower lists.upper lists.widths
     (omega arith) (omega arith, omega arith) c.marked-wanted.ensures c.least_sets.ensures _ c.of_nodes.ensures
